@@ -1,0 +1,5 @@
+pub mod Words
+pub mod Blocks
+pub mod Places
+pub mod Apart
+pub mod Starts
