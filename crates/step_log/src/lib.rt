@@ -1,0 +1,14 @@
+//! Shared words whose seats keep a log of their steps.
+//! Each step stands in its seat's log with the value that it found, so a caller can tell of no step that it didn't take.
+//! Logs and views exist in the proofs alone.
+#![tactic(auto)]
+
+mod rule;
+mod step;
+#[cfg(test)]
+mod tests;
+mod words;
+
+pub use rule::{StepRule, Told};
+pub use step::{Logged, Move, Taken};
+pub use words::{Stopped, WordSeat, Words};

@@ -1,0 +1,25 @@
+//! One step, as a log has it. No value of these types is made.
+
+/// What a step does to its word.
+pub enum Move {
+    Load,
+    Store,
+    AddOne,
+    Max,
+    Split,
+    Join,
+}
+
+/// A step that was taken. A store, a split and a join find nothing; a load, an add, a split and a join bring nothing, written 0.
+pub struct Taken {
+    pub made: Move,
+    pub index: u64,
+    pub brought: u64,
+    pub found: Option<u64>,
+}
+
+/// What a seat knows: the rule's own view, with the log beside it. A clause reads an array as a list, of any length.
+pub struct Logged<V> {
+    pub view: V,
+    pub log: [Taken; 0],
+}
