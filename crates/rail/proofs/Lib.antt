@@ -1,0 +1,5 @@
+pub mod Rising
+pub mod Dense
+pub mod Live
+pub mod Whole
+pub mod ListSeats

@@ -1,0 +1,11 @@
+use Rattle.std.proofs.Common.{rules, ◌≡◌, ◌∷◌, [], sym, ◌∙◌}
+use Rattle.rail.proofs.Whole.{one_taken_and_left}
+use Rattle.rail.proofs.passage.pass_all.Goals as goal
+
+pub returns-in-Ok : goal.returns-in-Ok
+returns-in-Ok g c =
+    let one : c.push.new.self.items ≡ c.take_all.new.seat ∷ [] = search rules in
+    one_taken_and_left g.Q.Rail.made g.Q.Rail.taken c.take_all.new.seat c.push.new.self.items _ _ _ _ _ one (c.put_all.ensures.kept ∙ sym c.take_all.ensures.made) c.take_all.ensures.kept
+    c.in-Ok.ensures.accepted
+    c.in-Ok.ensures.taken
+    (c.in-Ok.ensures.retry c.requires.keeps)
