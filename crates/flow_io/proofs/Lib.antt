@@ -1,0 +1,4 @@
+pub mod Begun
+pub mod Files
+pub mod Parts
+pub mod Unused

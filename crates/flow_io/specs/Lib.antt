@@ -1,0 +1,4 @@
+pub mod Clock
+pub mod Flow
+pub mod Held
+pub mod Stored
