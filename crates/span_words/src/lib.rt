@@ -1,0 +1,10 @@
+//! Spans of a profile, each spelled as a few numbers.
+#![tactic(auto)]
+
+mod laws;
+mod span;
+#[cfg(test)]
+mod tests;
+
+pub use laws::spellings_differ;
+pub use span::{SPAN_WORDS, SpanEvent, SpanKind, WordsError, decode, encode};
