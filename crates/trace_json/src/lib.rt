@@ -1,0 +1,12 @@
+//! The text of a trace in the JSON object form of the Trace Event Format.
+#![tactic(auto)]
+
+mod event;
+mod laws;
+#[cfg(test)]
+mod tests;
+mod trace;
+
+pub use event::event_text;
+pub use laws::trace_text_in_parts;
+pub use trace::{TraceError, write_trace};

@@ -1,0 +1,136 @@
+ghost use Rattle.std.specs.Prelude.{◌≡◌, ℕ, ◌<◌, ◌≤◌, true, false, if◌then◌else◌, List, [], ◌++◌, All, length, map, string_bytes, IfErr, IsErrOf, OnOk, OnErr};
+ghost use Rattle.flow_io.specs.Flow.{Rose, gained, GainedPart};
+ghost use Rattle.serde_json.specs.Written.{comma_if};
+ghost use Rattle.trace_json.specs.Trace.{text_of_event, trace_text, head_text, HasFile, HandsOver};
+
+use crate::event_text;
+use flow_io::{Sink, write_all};
+use itoa::Buffer;
+use span_words::SpanEvent;
+use std::alloc::{AllocError, Global};
+use thiserror::Error;
+
+/// From this length on the text is handed to the sink.
+const FULL: usize = 65_536;
+
+/// Why a trace isn't whole.
+#[derive(Debug, Drop, Error)]
+pub enum TraceError {
+    #[error("cannot write the trace")]
+    Fault,
+    #[error("out of memory")]
+    Memory,
+}
+
+impl From<AllocError> for TraceError {
+    ghost use Rattle.trace_json.specs.declared.trace.TraceError.TheVariants.{Memory};
+
+    ghost from_gives = { λ _ e. e ≡ Memory };
+
+    fn from(_refused: AllocError) -> TraceError {
+        TraceError::Memory
+    }
+}
+
+/// Hands the text to the sink.
+fn hand_over<O: Sink>(sink: &mut O, text: &mut Vec<u8>) -> Result<(), TraceError>
+    requires { O.ready sink.old }
+    ensures later { O.faults sink.old ≤ O.faults sink.new }
+    ensures ready { O.ready sink.new }
+    ensures beside { O.beside sink.new ≡ O.beside sink.old }
+    ensures ok { OnOk result (O.told sink.new ≡ gained (O.told sink.old) text.old.items) }
+    ensures empty { OnOk result (text.new.items ≡ []) }
+    ensures kind { IfErr result (λ e. e ≡ TraceError.Fault) }
+    ensures part { OnErr result (GainedPart (O.told sink.old) (O.told sink.new) text.old.items) }
+    ensures cause { OnErr result (Rose (O.faults sink.old) (O.faults sink.new)) }
+{
+    if !write_all(sink, text.as_slice()) {
+        return Err(TraceError::Fault);
+    }
+    text.clear();
+    Ok(())
+}
+
+/// Hands the text to the sink where it is long enough.
+fn hand_over_full<O: Sink>(sink: &mut O, text: &mut Vec<u8>) -> Result<(), TraceError>
+    requires { O.ready sink.old }
+    ensures later { O.faults sink.old ≤ O.faults sink.new }
+    ensures ready { O.ready sink.new }
+    ensures beside { O.beside sink.new ≡ O.beside sink.old }
+    ensures ok { OnOk result
+        (HandsOver (O.told sink.old) (O.told sink.new) text.old.items text.new.items) }
+    ensures kind { IfErr result (λ e. e ≡ TraceError.Fault) }
+    ensures part { OnErr result (GainedPart (O.told sink.old) (O.told sink.new) text.old.items) }
+    ensures cause { OnErr result (Rose (O.faults sink.old) (O.faults sink.new)) }
+{
+    if text.len() < FULL {
+        return Ok(());
+    }
+    hand_over(sink, text)
+}
+
+fn push_head(text: &mut Vec<u8>, accepted: u64, kept: usize) -> Result<(), AllocError>
+    ensures { OnOk result (text.new.items ≡ text.old.items ++ head_text accepted kept) }
+{
+    text.extend_from_slice(b"{\"displayTimeUnit\":\"ms\",\"otherData\":{\"accepted\":")?;
+    text.extend_from_slice(Buffer::new().format(accepted).as_bytes())?;
+    text.extend_from_slice(b",\"kept\":")?;
+    text.extend_from_slice(Buffer::new().format(kept).as_bytes())?;
+    text.extend_from_slice(b"},\"traceEvents\":[")?;
+    Ok(())
+}
+
+fn push_event(
+    alloc: Global,
+    text: &mut Vec<u8>,
+    later: bool,
+    event: &SpanEvent,
+    files: &[String],
+) -> Result<(), AllocError>
+    requires { HasFile (length files.now) event.now }
+    ensures { OnOk result (text.new.items
+        ≡ text.old.items ++ (comma_if later ++ text_of_event (map string_bytes files.now) event.now)) }
+{
+    if later {
+        text.push(b',')?;
+    }
+    text.extend_from_slice(event_text(alloc, event, files)?.bytes())?;
+    Ok(())
+}
+
+/// Writes the trace of these spans, of so many that were accepted.
+pub fn write_trace<O: Sink>(
+    alloc: Global,
+    sink: &mut O,
+    events: &[SpanEvent],
+    files: &[String],
+    accepted: u64,
+) -> Result<(), TraceError>
+    requires files { All (HasFile (length files.now)) events.now }
+    requires ready { O.ready sink.old }
+
+    ensures later { O.faults sink.old ≤ O.faults sink.new }
+    ensures ready { O.ready sink.new }
+    ensures beside { O.beside sink.new ≡ O.beside sink.old }
+
+    ensures ok { OnOk result (O.told sink.new
+        ≡ gained (O.told sink.old) (trace_text (map string_bytes files.now) accepted events.now)) }
+    ensures cause { IsErrOf result TraceError.Fault
+        → Rose (O.faults sink.old) (O.faults sink.new) }
+    ensures fault { IsErrOf result TraceError.Fault
+        → GainedPart (O.told sink.old) (O.told sink.new)
+        (trace_text (map string_bytes files.now) accepted events.now) }
+    ensures memory { IsErrOf result TraceError.Memory
+        → (part : List ℕ) × (left : List ℕ)
+        × (part ++ left ≡ trace_text (map string_bytes files.now) accepted events.now)
+        × (O.told sink.new ≡ gained (O.told sink.old) part) }
+{
+    let mut text = Vec::with_capacity(alloc, FULL)?;
+    push_head(&mut text, accepted, events.len())?;
+    for (index, event) in events.iter().enumerate() {
+        push_event(alloc, &mut text, index > 0, event, files)?;
+        hand_over_full(sink, &mut text)?;
+    }
+    text.extend_from_slice(b"]}\n")?;
+    hand_over(sink, &mut text)
+}
