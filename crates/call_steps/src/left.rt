@@ -1,0 +1,38 @@
+//! What is left in the words of a queue that no thread shares any more.
+ghost use Rattle.std.specs.Prelude.{◌≡◌, ◌+◌, ◌<◌, ◌≤◌, ◌++◌, length};
+ghost use Rattle.cursor_word.specs.Cursor.{place_span};
+ghost use Rattle.cursor_word.specs.Layout.{word_count};
+ghost use Rattle.bbq_core.specs.Gathered.{entry_at, left_in};
+
+use cursor_word::{Cursor, Shape, entry_word};
+use rail::{Batch, Entry, Placed};
+use step_log::Stopped;
+
+/// Gives the batch the items of so many places from `from` on, with the words that stand there.
+pub fn read_left(stopped: &Stopped, shape: &Shape, from: u64, count: u64, left: &mut Batch)
+    requires words { length stopped.now ≡ word_count shape.now }
+    requires places { from + count < place_span }
+    requires room { count ≤ left.old.spare }
+    ensures items { left.new.items ≡ left.old.items ++ left_in shape.now stopped.now from (from + count) }
+{
+    for place in from..from + count {
+        left.push(Placed {
+            place,
+            words: read_entry(stopped, shape, place),
+        });
+    }
+}
+
+fn read_entry(stopped: &Stopped, shape: &Shape, place: u64) -> Entry
+    requires words { length stopped.now ≡ word_count shape.now }
+    requires place { place < place_span }
+    ensures { result ≡ entry_at shape.now stopped.now place }
+{
+    let at = Cursor::at_place(shape, place);
+    let width = shape.width();
+    let mut words = [0; 8];
+    for word in 0..width {
+        words[word as usize] = stopped.word(entry_word(shape, at, word));
+    }
+    Entry::new(&words[..width as usize])
+}

@@ -1,0 +1,14 @@
+//! How a call of a queue becomes steps: one step of any kind on shared words, and the loop that runs a put and a take.
+#![tactic(auto)]
+
+mod calls;
+mod left;
+mod operation;
+mod rule;
+mod start;
+
+pub use calls::{run_put, run_take};
+pub use left::read_left;
+pub use operation::operate;
+pub use rule::{Call, MachineRule, NextStep};
+pub use start::start_words;
