@@ -1,0 +1,4 @@
+mod Kept
+mod Starts
+mod Finish
+mod Answered
