@@ -1,0 +1,9 @@
+pub mod Permuted
+pub mod Parted
+pub mod Held
+pub mod Gathered
+pub mod Starts
+pub mod Stepped
+pub mod Machine
+pub mod Promised
+pub mod Settled

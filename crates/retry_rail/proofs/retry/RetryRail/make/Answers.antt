@@ -1,0 +1,15 @@
+use Rattle.std.proofs.Common.{◌∷◌, [], ◌∙◌, ap, sym, subst, arith, length}
+use Rattle.std.proofs.lemmas.List.FromFn.{length-map-range_with_len}
+use Rattle.cursor_word.specs.Layout.{start_at, word_count}
+use Rattle.retry_rail.specs.Holding.{IsHeld, all_seats}
+use Rattle.retry_rail.proofs.Starts.{starts_held}
+use Rattle.retry_rail.proofs.retry.RetryRail.make.Goals as goal
+
+pub make-requires-clause-rule : goal.make-requires-clause-rule
+make-requires-clause-rule c = subst (λ ws. IsHeld c.args.shape ws (all_seats c.args.shape ∷ [])) (sym c.in_ok-start.ensures) (starts_held c.args.shape c.blocks-blocks.ensures.limits)
+
+pub deal-requires-clause-words : goal.deal-requires-clause-words
+deal-requires-clause-words c = let e = c.in_ok-words.ensures.words.0 ∙ ap length c.in_ok-start.ensures ∙ length-map-range_with_len (start_at c.args.shape) 0 (word_count c.args.shape) in (omega arith, c.in_ok-words.ensures.words.1)
+
+pub invariant_of-result : goal.invariant_of-result
+invariant_of-result c = (c.in_ok-words.ensures.words.1, c.in_ok-words.ensures.words.0 ∙ ap length c.in_ok-start.ensures ∙ length-map-range_with_len (start_at c.args.shape) 0 (word_count c.args.shape))

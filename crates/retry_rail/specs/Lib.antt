@@ -1,0 +1,4 @@
+pub mod Holding
+pub mod Retry
+pub mod Machine
+pub mod Closed

@@ -1,0 +1,13 @@
+//! The queue that refuses when full, for many threads over shared words.
+#![tactic(auto)]
+
+mod holding;
+mod retry;
+mod rule;
+mod seats;
+#[cfg(test)]
+mod tests;
+
+pub use holding::Holding;
+pub use retry::{RetryDone, RetryRail};
+pub use seats::RetrySeat;

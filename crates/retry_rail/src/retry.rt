@@ -1,0 +1,221 @@
+//! The queue.
+ghost use Rattle.std.specs.Prelude.{◌≡◌, ℕ, ◌+◌, ◌-◌, ◌<◌, ◌≤◌, List, [], ◌∷◌, ◌++◌, Some, IfErr, IfOk, IsPermutation, false, true, flat_map, length, map};
+ghost use Rattle.std.specs.List.{All};
+ghost use Rattle.rail.specs.Items.{IsRising, places};
+ghost use Rattle.rail.specs.Outcome.{DropOutcome, IsAccepted, RetryOutcome, numbers_below};
+ghost use Rattle.rail.specs.Rail.{Puts, Takes, most_puts};
+ghost use Rattle.rail.specs.declared.answer.Answer.TheVariants as answer;
+ghost use Rattle.step_log.specs.declared.step.Taken.{Taken};
+ghost use Rattle.bbq_core.specs.PutSteps.{first_put};
+ghost use Rattle.bbq_core.specs.TakeSteps.{first_take};
+ghost use Rattle.call_steps.specs.Call.{TookSteps};
+ghost use Rattle.retry_rail.specs.Retry.{IsFresh, IsSeatOf, Queue, Seated};
+ghost use Rattle.retry_rail.specs.Closed.{made_by_all, taken_by_all};
+
+use crate::rule::Holdings;
+use crate::seats::{RetrySeat, deal, gather, totals};
+use call_steps::{read_left, start_words};
+use cursor_word::Shape;
+use rail::{Batch, Put, Rail, Refused, Take};
+use std::alloc::{AllocError, Global};
+use std::marker::Model;
+use std::snapshot::Snapshot;
+use step_log::Words;
+
+/// A queue that refuses entries when it is full. Each of its seats may be used from a thread of its own.
+#[derive(Drop)]
+pub struct RetryRail {
+    words: Words<Holdings>,
+    shape: Shape,
+}
+
+impl Model for RetryRail {
+    ghost use Rattle.std.specs.Prelude.{◌≡◌};
+    ghost use Rattle.cursor_word.specs.Layout.{word_count};
+    ghost use Rattle.retry_rail.specs.Retry.{Queue};
+
+    ghost Value = { Queue };
+
+    ghost view = { λ q. record { id = q.words.id; shape = q.words.key } };
+
+    ghost invariant = { λ q. (q.words.key ≡ q.shape) × (q.words.id.words ≡ word_count q.shape) };
+}
+
+/// What a closed `RetryRail` had.
+#[derive(Drop)]
+pub struct RetryDone {
+    shape: Shape,
+    accepted: u64,
+    left: Batch,
+    seats: Snapshot<Vec<RetrySeat>>,
+}
+
+impl Model for RetryDone {
+    ghost use Rattle.std.specs.Prelude.{◌≡◌, length};
+    ghost use Rattle.retry_rail.specs.Closed.{Closed, closed, made_by_all};
+
+    ghost Value = { Closed };
+
+    ghost view = { λ d. closed d.shape d.seats.value.items d.left.items };
+
+    ghost invariant = { λ d. d.accepted ≡ length (made_by_all d.seats.value.items) };
+}
+
+impl RetryRail {
+    /// A queue of this shape, and all its seats. None of them has made or taken anything.
+    pub fn make(alloc: Global, shape: Shape) -> Result<(RetryRail, Vec<RetrySeat>), AllocError>
+        ensures shape { IfOk result (λ r. r.0.shape ≡ shape) }
+        ensures numbers { IfOk result (λ r. map (λ s. s.number) r.1.items ≡ numbers_below shape.seats) }
+        ensures fresh { IfOk result (λ r. All (IsFresh r.0) r.1.items) }
+    {
+        let _blocks = shape.blocks();
+        let start = start_words(alloc, &shape)?;
+        let (words, first) = Words::<Holdings>::make(alloc, start, shape)?;
+        let seats = deal(alloc, &words, first, &shape)?;
+        Ok((RetryRail { words, shape }, seats))
+    }
+
+    // Stops all steps, and reads what is left.
+    fn finish(self, seats: Vec<RetrySeat>, puts: u64, takes: u64, mut left: Batch) -> RetryDone
+        requires seats { All (IsSeatOf self) seats.items }
+        requires all { length seats.items ≡ self.shape.seats }
+        requires puts { puts ≡ length (made_by_all seats.items) }
+        requires takes { takes ≡ length (taken_by_all seats.items) }
+        requires empty { left.items ≡ [] }
+        requires room { puts - takes ≤ left.spare }
+        ensures shape { result.shape ≡ self.shape }
+        ensures accepted { IsAccepted (made_by_all seats.items) result.accepted }
+        ensures taken { IsPermutation (taken_by_all seats.items) result.taken }
+        ensures order { IsRising (places result.taken) }
+        ensures retry { RetryOutcome result.accepted result.taken result.left }
+    {
+        let before = Snapshot::of(&seats);
+        let _blocks = self.shape.blocks();
+        let RetryRail { words, shape } = self;
+        let all = gather(&words, seats);
+        let stopped = words.close(all);
+        read_left(
+            &stopped,
+            &shape,
+            takes,
+            puts.saturating_sub(takes),
+            &mut left,
+        );
+        RetryDone {
+            shape,
+            accepted: puts,
+            left,
+            seats: before,
+        }
+    }
+}
+
+impl Rail for RetryRail {
+    ghost use Rattle.std.specs.Prelude.{◌≡◌, false};
+    ghost use Rattle.retry_rail.specs.Retry.{IsSeatOf};
+
+    type Seat = RetrySeat;
+
+    type Done = RetryDone;
+
+    const MOST_SEATS: u64 = 256;
+
+    const DROPS: bool = false;
+
+    ghost MOST_SEATS = { 256 };
+
+    ghost DROPS = { false };
+
+    ghost shape_of = { λ q. q.shape };
+
+    ghost PutsInto = { IsSeatOf };
+
+    ghost TakesFrom = { IsSeatOf };
+
+    ghost number_of = { λ s. s.number };
+
+    ghost made = { λ s. s.view.made };
+
+    ghost taken = { λ s. s.view.taken };
+
+    ghost told = { λ s. record { found = s.view.trail; answer = s.view.answer } };
+
+    ghost done_shape = { λ d. d.shape };
+
+    ghost done_accepted = { λ d. d.accepted };
+
+    ghost done_taken = { λ d. d.taken };
+
+    ghost done_left = { λ d. d.left };
+
+    fn shape(&self) -> Shape {
+        let _blocks = self.shape.blocks();
+        self.shape
+    }
+
+    /// Puts an entry, by the machine's steps and no other.
+    fn put(&self, seat: &mut RetrySeat, entry: &[u64]) -> Put
+        requires seat { IsSeatOf self.now seat.old }
+        requires width { length entry.now ≡ self.now.shape.width }
+        requires room { length seat.old.view.made < most_puts }
+        ensures seat { (rail : Queue) → IsSeatOf rail seat.old → IsSeatOf rail seat.new }
+        ensures takes { (rail : Queue) → IsSeatOf rail seat.old → IsSeatOf rail seat.new }
+        ensures number { seat.new.number ≡ seat.old.number }
+        ensures taken { seat.new.view.taken ≡ seat.old.view.taken }
+        ensures answer { Puts self.now.shape false entry.now seat.old.view.made seat.new.view.made seat.new.view.trail result }
+        ensures told { seat.new.view.answer ≡ Some (answer.Put result) }
+        ensures steps { (steps : List Taken) × TookSteps self.now.shape entry.now first_put steps (answer.Put result) seat.new.view.trail seat.old.log seat.new.log }
+    {
+        seat.put(&self.words, &self.shape, entry)
+    }
+
+    /// Takes an entry, by the machine's steps and no other.
+    fn take(&self, seat: &mut RetrySeat, out: &mut [u64]) -> Take
+        requires seat { IsSeatOf self.now seat.old }
+        requires width { length out.old ≡ self.now.shape.width }
+        ensures seat { (rail : Queue) → IsSeatOf rail seat.old → IsSeatOf rail seat.new }
+        ensures puts { (rail : Queue) → IsSeatOf rail seat.old → IsSeatOf rail seat.new }
+        ensures number { seat.new.number ≡ seat.old.number }
+        ensures made { seat.new.view.made ≡ seat.old.view.made }
+        ensures answer { Takes self.now.shape false seat.new.view.made out.old out.new seat.old.view.taken seat.new.view.taken seat.new.view.trail result }
+        ensures told { seat.new.view.answer ≡ Some (answer.Take result) }
+        ensures steps { (steps : List Taken) × TookSteps self.now.shape [] first_take steps (answer.Take result) seat.new.view.trail seat.old.log seat.new.log }
+    {
+        seat.take(&self.words, &self.shape, out)
+    }
+
+    fn close(
+        self,
+        alloc: Global,
+        seats: Vec<Self::Seat>,
+    ) -> Result<Self::Done, Refused<Self, Self::Seat>>
+        requires seats { All (IsSeatOf self) seats.items }
+        requires all { IsPermutation (map (λ (s : Seated). s.number) seats.items) (numbers_below self.shape.seats) }
+        ensures shape { IfOk result (λ done. done.shape ≡ self.shape) }
+        ensures accepted { IfOk result (λ done. IsAccepted (flat_map (λ (s : Seated). s.view.made) seats.items) done.accepted) }
+        ensures taken { IfOk result (λ done. IsPermutation (flat_map (λ (s : Seated). s.view.taken) seats.items) done.taken) }
+        ensures order { IfOk result (λ done. IsRising (places done.taken)) }
+        ensures retry { false ≡ false → IfOk result (λ done. RetryOutcome done.accepted done.taken done.left) }
+        ensures drop { false ≡ true → IfOk result (λ done. DropOutcome done.shape done.accepted done.taken done.left) }
+        ensures refused { IfErr result (λ refused. (refused.rail ≡ self) × (refused.seats.items ≡ seats.items)) }
+    {
+        let _blocks = self.shape.blocks();
+        let (puts, takes) = totals(seats.as_slice());
+        match Batch::with_room(alloc, puts.saturating_sub(takes) as usize) {
+            Ok(left) => Ok(self.finish(seats, puts, takes, left)),
+            Err(_) => Err(Refused { rail: self, seats }),
+        }
+    }
+
+    fn puts(seat: &RetrySeat) -> u64 {
+        seat.puts()
+    }
+
+    fn accepted(done: &RetryDone) -> u64 {
+        done.accepted
+    }
+
+    fn left(done: &RetryDone) -> &Batch {
+        &done.left
+    }
+}
