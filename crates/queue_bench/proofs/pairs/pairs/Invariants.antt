@@ -1,0 +1,6 @@
+use Rattle.std.proofs.Common.{◌≡◌, ◌+◌, ◌≤◌, length}
+use Rattle.rail.specs.Rail.{most_puts}
+use Rattle.queue_bench.proofs.pairs.pairs.Given as goal
+
+abbrev pub invariant-loop-turn : goal.invariant-loop-turn
+invariant-loop-turn g l = let m = g.Q.Rail in m.PutsInto l.rail l.seat × m.TakesFrom l.rail l.seat × (length (m.made l.seat) ≤ length (m.made l.initial.seat) + l.turn) × (l.kept ≤ l.turn)
