@@ -1,0 +1,36 @@
+-- What several calls gain, one after the other.
+use Rattle.std.proofs.Common.{◌≡◌, ℕ, ◌+◌, List, [], ◌∷◌, ◌++◌, length, refl, sym, ap, ◌∙◌}
+use Rattle.std.proofs.lemmas.List.{append_assoc, append-nil, length-append, map-append}
+use Rattle.rail.specs.declared.entry.Placed.{Placed}
+use Rattle.rail.specs.Items.{placed}
+use Rattle.rail.proofs.Rising.{rising_gains}
+use Rattle.span_words.specs.declared.span.SpanEvent.{SpanEvent}
+use Rattle.span_words.specs.Span.{spelling}
+use Rattle.span_recorder.specs.Gain.{GainAlike, GainsEntry, Notes}
+
+pub gain_none : (a x y : List Placed) → x ≡ y → GainAlike a a x y
+gain_none a x y e = record { items = []; gained = sym (append-nil a); gained_other = sym e ∙ sym (append-nil x) }
+
+-- between the two the first list stayed
+pub gain_twice : (a b c b' x y z : List Placed) → b' ≡ b → GainAlike a b x y → GainAlike b' c y z → GainAlike a c x z
+gain_twice a b c b' x y z e f s = record {
+  items = f.items ++ s.items;
+  gained = s.gained ∙ ap (λ (t : List Placed). t ++ s.items) (e ∙ f.gained) ∙ append_assoc a f.items s.items;
+  gained_other = s.gained_other ∙ ap (λ (t : List Placed). t ++ s.items) f.gained_other ∙ append_assoc x f.items s.items;
+}
+
+pub notes_none : (xs : List Placed) → Notes xs xs []
+notes_none xs = record { items = []; gained = sym (append-nil xs); spelled = refl; rising = λ r. r }
+
+pub notes_more : (old mid new : List Placed) (es : List SpanEvent) (e : SpanEvent) → Notes old mid es → GainsEntry mid new (spelling e) → Notes old new (es ++ e ∷ [])
+notes_more old mid new es e n s =
+    let x : Placed = placed s.place (spelling e) in
+    record {
+      items = n.items ++ x ∷ [];
+      gained = s.gains.at_end ∙ ap (λ (t : List Placed). t ++ x ∷ []) n.gained ∙ append_assoc old n.items (x ∷ []);
+      spelled = map-append (λ (i : Placed). i.words) n.items (x ∷ []) ∙ ap (λ (t : List (List ℕ)). t ++ spelling e ∷ []) n.spelled ∙ sym (map-append spelling es (e ∷ []));
+      rising = λ r. rising_gains mid new x (n.rising r) s.gains;
+    }
+
+pub longer_by_one : (a b : List Placed) (words : List ℕ) → GainsEntry a b words → length b ≡ length a + 1
+longer_by_one a b words s = ap (λ (t : List Placed). length t) s.gains.at_end ∙ length-append a (placed s.place words ∷ [])
