@@ -1,0 +1,9 @@
+pub mod Counting
+pub mod Given
+pub mod Inside
+pub mod OneText
+pub mod Ranges
+pub mod Readings
+pub mod Said
+pub mod Stored
+pub mod Traced

@@ -1,0 +1,5 @@
+pub mod Messages
+pub mod Profile
+pub mod Spans
+pub mod Trace
+pub mod Worker
