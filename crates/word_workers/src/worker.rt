@@ -3,6 +3,7 @@ ghost use Rattle.std.specs.List.{All, range_with_len};
 ghost use Rattle.std.specs.FinMap as map_of;
 ghost use Rattle.rail.specs.Rail.{most_puts};
 ghost use Rattle.span_recorder.specs.Gain.{GainAlike};
+ghost use Rattle.span_words.specs.Span.{duration};
 ghost use Rattle.word_text.specs.Counts.{add_all, total};
 ghost use Rattle.word_text.specs.Pieces.{LiesIn, plan_bytes};
 ghost use Rattle.word_workers.specs.Spans.{AllLieIn, piece_at, plan_words, words_at};
@@ -79,7 +80,7 @@ pub fn run_worker<R: Rail, H: Hand, G: Gate>(
         kind: SpanKind::Worker,
         tid: worker + 1,
         ts: first,
-        dur: last.saturating_sub(first),
+        dur: elapsed(first, last),
         file: 0,
         piece: done.drawn.numbers().len() as u64,
         words,
@@ -127,7 +128,7 @@ fn count_noted<R: Rail, H: Hand>(
         kind: SpanKind::Piece,
         tid: worker + 1,
         ts: before,
-        dur: after.saturating_sub(before),
+        dur: elapsed(before, after),
         file,
         piece: number,
         words,
@@ -135,6 +136,13 @@ fn count_noted<R: Rail, H: Hand>(
     note_span(rt, alloc, rail, &mut done.seat, &mut done.batch, &event)?;
     done.drawn.push(number)?;
     Ok(words)
+}
+
+// How long it was between two readings, 0 where the clock ran backwards.
+fn elapsed(before: u64, after: u64) -> u64
+    ensures { result ≡ duration before after }
+{
+    after.saturating_sub(before)
 }
 
 // The file of a piece, and its bytes.

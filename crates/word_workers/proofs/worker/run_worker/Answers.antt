@@ -86,4 +86,4 @@ pub returns-clause-spans : goal.returns-clause-spans
 returns-clause-spans g c =
     let i = c.loop-number.invariant in
     let piece = ap (λ (t : List ℕ). length t) c.numbers.ensures.numbers in
-    counting_done _ _ _ _ _ _ _ _ _ _ _ _ _ _ _ i.counting c.now-last.ensures.ticks c.now-last.ensures.most c.saturating_sub.ensures piece i.count.words_are c.in_ok-note_span.ensures.made
+    counting_done _ _ _ _ _ _ _ _ _ _ _ _ _ _ _ i.counting c.now-last.ensures.ticks c.now-last.ensures.most c.elapsed.ensures piece i.count.words_are c.in_ok-note_span.ensures.made
