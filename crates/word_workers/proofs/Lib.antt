@@ -5,3 +5,4 @@ pub mod Works
 pub mod Owners
 pub mod Runs
 pub mod Traces
+pub mod Plans

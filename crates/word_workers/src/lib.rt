@@ -5,6 +5,8 @@ mod all;
 mod drawn;
 mod gate;
 mod numbers;
+#[cfg(test)]
+mod tests;
 mod worker;
 
 pub use all::{Work, run_all};
