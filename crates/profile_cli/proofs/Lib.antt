@@ -1,9 +1,8 @@
-pub mod Counting
 pub mod Given
-pub mod Inside
-pub mod OneText
-pub mod Ranges
-pub mod Readings
-pub mod Said
 pub mod Stored
-pub mod Traced
+pub mod Accepted
+pub mod Held
+pub mod Planned
+pub mod UsageWords
+pub mod Said
+pub mod Complete

@@ -1,5 +1,6 @@
+pub mod Closed
 pub mod Messages
-pub mod Profile
-pub mod Spans
+pub mod Statuses
+pub mod Texts
 pub mod Trace
-pub mod Worker
+pub mod Usage

@@ -1,49 +1,41 @@
--- What the trace of a run over one file says.
-use Rattle.std.specs.Prelude.{◌≡◌, ℕ, ◌+◌, ◌*◌, ◌<◌, ◌⊎◌, List, [], ◌∷◌, ◌++◌, length, take, codes, Option, Some, IfSome}
-use Rattle.std.specs.List.{range_with_len}
+-- The trace of a run, as the trace store has it.
+use Rattle.std.specs.Prelude.{◌≡◌, ℕ, ◌<◌, ◌⊎◌, List, [], ◌∷◌, ◌++◌, length, map, take, Option, Some, IfSome}
 use Rattle.flow_io.specs.Flow.{Files}
-use Rattle.flow_io.specs.Clock.{Ticks}
+use Rattle.rail.specs.declared.entry.Placed.{Placed}
 use Rattle.span_words.specs.declared.span.SpanEvent.{SpanEvent}
+use Rattle.span_words.specs.Span.{spelling}
 use Rattle.trace_json.specs.Trace.{trace_text}
-use Rattle.word_text.specs.declared.plan.Piece.{Piece}
-use Rattle.word_text.specs.Pieces.{plan_of}
-use Rattle.profile_cli.specs.Spans.{AreReadings, spans_of}
 
--- the least length of a piece, but for the last
-abbrev pub piece_length : ℕ
-piece_length = 65536
+-- these events are what these entries spell, in order
+abbrev pub Spell : List SpanEvent → List Placed → Type 0
+Spell events entries = map spelling events ≡ map (λ (i : Placed). i.words) entries
 
-abbrev pub trace_name : List ℕ
-trace_name = codes "trace.json"
+-- the trace text of these spans, which are all that were accepted
+abbrev pub trace_of : List (List ℕ) → List SpanEvent → List ℕ
+trace_of names events = trace_text names (length events) events
 
--- these are the spans of the one worker, which counted all pieces of the plan in order
-pub record AreSpans (plan : List Piece) (texts : List (List ℕ)) (ticks : Option Ticks) (events : List SpanEvent) : Type 0 where
-  pub readings : List ℕ
-  pub are_readings : AreReadings ticks readings (2 * length plan + 2)
-  pub are_spans : events ≡ spans_of plan texts 0 (range_with_len 0 (length plan)) readings
-
--- this is the trace text of a run over one file with these bytes
-pub record IsTrace (name bytes : List ℕ) (ticks : Option Ticks) (text : List ℕ) : Type 0 where
+-- this is the trace text of these accepted entries, all of them, where the texts have these names
+pub record IsTrace (names : List (List ℕ)) (accepted : List Placed) (text : List ℕ) : Type 0 where
   pub events : List SpanEvent
-  pub spans : AreSpans (plan_of (bytes ∷ []) piece_length) (bytes ∷ []) ticks events
-  pub is : text ≡ trace_text (name ∷ []) (length events) events
+  pub spell : Spell events accepted
+  pub is : text ≡ trace_of names events
 
 -- where a store tells its documents, they are the old ones and one more of this name
 abbrev pub GainsDocument : Option Files → Option Files → List ℕ → List ℕ → Type 0
 GainsDocument old new name bytes = IfSome old (λ earlier. new ≡ Some (earlier ++ (name, bytes) ∷ []))
 
--- the store gained this trace
-abbrev pub Traces : Option Files → Option Files → List ℕ → List ℕ → Option Ticks → Type 0
-Traces old new name bytes ticks = (text : List ℕ) × IsTrace name bytes ticks text × GainsDocument old new trace_name text
+-- the store gained the trace of these accepted entries, under this name
+abbrev pub Traces : Option Files → Option Files → List ℕ → List (List ℕ) → List Placed → Type 0
+Traces old new name names accepted = (text : List ℕ) × IsTrace names accepted text × GainsDocument old new name text
 
 -- no trace was begun, or a shorter prefix of it is there
-abbrev pub TracesPart : Option Files → Option Files → List ℕ → List ℕ → Option Ticks → Type 0
-TracesPart old new name bytes ticks = (new ≡ old) ⊎ ((text : List ℕ) × IsTrace name bytes ticks text × ((n : ℕ) × (n < length text) × GainsDocument old new trace_name (take n text)))
+abbrev pub TracesPart : Option Files → Option Files → List ℕ → List (List ℕ) → List Placed → Type 0
+TracesPart old new name names accepted = (new ≡ old) ⊎ ((text : List ℕ) × IsTrace names accepted text × ((n : ℕ) × (n < length text) × GainsDocument old new name (take n text)))
 
--- no trace was begun, or a prefix of it is there
-abbrev pub TracesPrefix : Option Files → Option Files → List ℕ → List ℕ → Option Ticks → Type 0
-TracesPrefix old new name bytes ticks = (new ≡ old) ⊎ ((text : List ℕ) × IsTrace name bytes ticks text × ((n : ℕ) × GainsDocument old new trace_name (take n text)))
+-- a prefix of the trace is there
+abbrev pub TracesPrefix : Option Files → Option Files → List ℕ → List (List ℕ) → List Placed → Type 0
+TracesPrefix old new name names accepted = (text : List ℕ) × IsTrace names accepted text × ((n : ℕ) × GainsDocument old new name (take n text))
 
--- the store keeps its documents, and gained at most one, of the trace's name
-abbrev pub KeepsDocuments : Option Files → Option Files → Type 0
-KeepsDocuments old new = IfSome old (λ earlier. (new ≡ Some earlier) ⊎ ((bytes : List ℕ) × (new ≡ Some (earlier ++ (trace_name, bytes) ∷ []))))
+-- the store keeps its documents, and gained at most one, of this name
+abbrev pub KeepsDocuments : Option Files → Option Files → List ℕ → Type 0
+KeepsDocuments old new name = IfSome old (λ earlier. (new ≡ Some earlier) ⊎ ((bytes : List ℕ) × (new ≡ Some (earlier ++ (name, bytes) ∷ []))))

@@ -1,20 +1,28 @@
-//! Counts the words of a file, and stores a trace of counting them.
+//! Counts the words of files by workers that note their spans in a queue, and stores a trace of it.
 #![tactic(auto)]
 
-mod asked;
+mod command;
 mod finish;
 mod messages;
+mod options;
+mod plans;
 mod profile;
+mod rails;
 mod reading;
+mod run;
+mod solo_rails;
 #[cfg(test)]
 mod tests;
-mod worker;
+mod texts;
+mod writing;
 
 use flow_io::{FileSource, FileStore, RealClock, StderrSink, StdoutSink};
 use profile::profile;
+use solo_rails::SoloRails;
 use std::alloc::{AllocError, Global};
 use std::process::ExitCode;
 use std::{env, io};
+use word_workers::NoGate;
 
 /// The words of the command, or the status where they can't be had.
 fn words_of(rt: &HostRuntime, alloc: Global) -> Result<Vec<String>, u8> {
@@ -45,7 +53,8 @@ fn main(rt: HostRuntime) -> ExitCode {
     let mut messages = StderrSink::new(&error);
     let mut trace = FileStore::new(&rt);
     let clock = RealClock::new(&rt);
-    let ended = profile(
+    let report = profile(
+        &rt,
         alloc,
         words.as_slice(),
         &mut files,
@@ -53,6 +62,8 @@ fn main(rt: HostRuntime) -> ExitCode {
         &mut messages,
         &mut trace,
         &clock,
+        &NoGate,
+        &SoloRails,
     );
-    ExitCode::from(ended.status)
+    ExitCode::from(report.status)
 }

@@ -1,6 +1,6 @@
 ghost use Rattle.std.specs.Prelude.{◌≡◌, ℕ, ◌+◌, ◌<◌, ◌≤◌, length, take, drop, vec_len, OnOk};
 ghost use Rattle.flow_io.specs.Flow.{ReadGives};
-ghost use Rattle.profile_cli.specs.Profile.{ReadsText};
+ghost use Rattle.profile_cli.specs.Texts.{ReadsText};
 
 use flow_io::{Got, Source};
 use std::alloc::{AllocError, Global};
@@ -26,7 +26,8 @@ fn read_on<F: Source>(files: &mut F, text: &mut Vec<u8>, filled: usize) -> Got
     ensures files { F.files files.new ≡ F.files files.old }
     ensures len { vec_len text.new ≡ vec_len text.old }
     ensures front { take filled text.new.items ≡ take filled text.old.items }
-    ensures gives { ReadGives (F.left files.old) (F.left files.new) (F.faults files.old) (F.faults files.new) (drop filled text.new.items) result }
+    ensures gives { ReadGives (F.left files.old) (F.left files.new)
+        (F.faults files.old) (F.faults files.new) (drop filled text.new.items) result }
 {
     files.read(&mut text[filled..])
 }
@@ -50,7 +51,8 @@ fn make_room(text: &mut Vec<u8>, filled: usize) -> Result<(), AllocError>
 pub fn read_text<F: Source>(alloc: Global, files: &mut F, name: &str) -> Reading
     ensures later { F.faults files.old ≤ F.faults files.new }
     ensures files { F.files files.new ≡ F.files files.old }
-    ensures gives { ReadsText (F.files files.old) name.now (F.faults files.old) (F.faults files.new) result }
+    ensures gives { ReadsText (F.files files.old) name.now
+        (F.faults files.old) (F.faults files.new) result }
 {
     if !files.start(name) {
         return Reading::Unread;

@@ -1,41 +1,70 @@
 //! What the command answers with ample memory, on worked texts and with a source or a sink that fails.
-use crate::profile::profile;
-use flow_io::{MemClock, MemSink, MemSource, MemStore};
-use std::alloc::{AllocError, Global};
-use std::test::Fail;
+ghost use Rattle.std.specs.Prelude.{◌≡◌, [], length, OnOk};
+ghost use Rattle.span_words.specs.Span.{IsTid};
 
-/// A run of the command over files in memory, and what it left.
+use crate::profile::profile;
+use crate::rails::Closed;
+use crate::solo_rails::SoloRails;
+use cursor_word::Shape;
+use flow_io::{MemClock, MemSink, MemSource, MemStore};
+use rail::{Batch, Rail};
+use solo_rail::SoloRetry;
+use span_recorder::note_span;
+use span_words::{SPAN_WORDS, SpanEvent, SpanKind, encode};
+use std::alloc::{AllocError, Global};
+use std::sync::Wait;
+use std::test::Fail;
+use std::thread::Threads;
+use word_workers::NoGate;
+
+/// What a run of the command left.
 #[derive(Drop)]
 struct Left {
     status: u8,
     detail: u64,
+    accepted: Option<u64>,
     out: MemSink,
     messages: MemSink,
     trace: MemStore,
 }
 
-/// A run over one file, with the numbers of the source's calls that fail and the room for the counts and the trace.
-fn tried(
-    alloc: Global,
-    words: &[&str],
-    bytes: Vec<u8>,
-    fails: Vec<u64>,
+/// What a run of the command may find: the source's calls that fail, and the room for the counts and for the trace.
+#[derive(Drop)]
+struct World<'a> {
+    fails: &'a [u64],
     room: usize,
     trace_room: usize,
+}
+
+const AMPLE: World = World {
+    fails: &[],
+    room: 1 << 10,
+    trace_room: 1 << 16,
+};
+
+/// A run of these words, over one file in memory.
+fn tried<X: Threads + Wait + Sync>(
+    rt: &X,
+    alloc: Global,
+    words: &[&str],
+    name: &str,
+    bytes: Vec<u8>,
+    world: &World<'_>,
 ) -> Result<Left, AllocError> {
     let mut asked = Vec::new(alloc);
     for word in words {
         asked.push(String::from_str(alloc, word)?)?;
     }
     let mut held = Vec::new(alloc);
-    held.push((String::from_str(alloc, "ab.txt")?, bytes))?;
-    let most = 1 << 24;
-    let mut files = MemSource::new(held, if fails.is_empty() { most } else { 3 }, fails);
-    let mut out = MemSink::new(alloc, room, 7, Vec::new(alloc))?;
+    held.push((String::from_str(alloc, name)?, bytes))?;
+    let most = if world.fails.is_empty() { 1 << 24 } else { 3 };
+    let mut files = MemSource::new(held, most, Vec::from_slice(alloc, world.fails)?);
+    let mut out = MemSink::new(alloc, world.room, 7, Vec::new(alloc))?;
     let mut messages = MemSink::new(alloc, 100, 7, Vec::new(alloc))?;
-    let mut trace = MemStore::new(alloc, 2, trace_room, 7, Vec::new(alloc))?;
+    let mut trace = MemStore::new(alloc, 2, world.trace_room, 7, Vec::new(alloc))?;
     let clock = MemClock { next: 0, step: 1 };
-    let ended = profile(
+    let report = profile(
+        rt,
         alloc,
         asked.as_slice(),
         &mut files,
@@ -43,59 +72,105 @@ fn tried(
         &mut messages,
         &mut trace,
         &clock,
+        &NoGate,
+        &SoloRails,
     );
     Ok(Left {
-        status: ended.status,
-        detail: ended.detail,
+        status: report.status,
+        detail: report.detail,
+        accepted: match &report.closed {
+            Closed::Retry(done) => Some(SoloRetry::accepted(done)),
+            Closed::Nothing => None,
+        },
         out,
         messages,
         trace,
     })
 }
 
-/// The trace of `a b a` and a newline in `ab.txt`, with a clock that counts from 0 by ones.
+const AB: &[u8] = b"a b a\n";
+
+const COUNTS: &[u8] = b"words 3 distinct 2\n2 a\n1 b\n";
+
+/// The trace of `a b a` and a newline in `ab.txt` by one worker, with a clock that counts from 0 by ones.
 const TRACE: &str =
     "{\"displayTimeUnit\":\"ms\",\"otherData\":{\"accepted\":2,\"kept\":2},\"traceEvents\":[{\"args\":{\"file\":0,\"piece\":0,\"words\":3},\"cat\":\"piece\",\"dur\":1,\"name\":\"ab.txt\",\"ph\":\"X\",\"pid\":1,\"tid\":1,\"ts\":1},{\"args\":{\"pieces\":1,\"words\":3},\"cat\":\"worker\",\"dur\":3,\"name\":\"worker\",\"ph\":\"X\",\"pid\":1,\"tid\":1,\"ts\":0}]}\n";
 
+/// The trace of an empty file by two workers.
+const IDLE: &str =
+    "{\"displayTimeUnit\":\"ms\",\"otherData\":{\"accepted\":2,\"kept\":2},\"traceEvents\":[{\"args\":{\"pieces\":0,\"words\":0},\"cat\":\"worker\",\"dur\":1,\"name\":\"worker\",\"ph\":\"X\",\"pid\":1,\"tid\":1,\"ts\":0},{\"args\":{\"pieces\":0,\"words\":0},\"cat\":\"worker\",\"dur\":1,\"name\":\"worker\",\"ph\":\"X\",\"pid\":1,\"tid\":2,\"ts\":0}]}\n";
+
 #[test]
-fn counts_one_file_or_names_the_refusal(rt: HostRuntime) -> Result<(), Fail> {
+fn counts_and_traces_or_names_the_refusal(rt: HostRuntime) -> Result<(), Fail> {
     let alloc = rt.alloc();
-    let ab = b"a b a\n".as_slice();
-    let usage = b"bbq-profile: usage: words\n".as_slice();
-    for (words, bytes, status, detail, out, message) in [
+    for (words, bytes, status, detail, accepted, out, message) in [
         (
-            ["ab.txt"].as_slice(),
-            ab,
+            ["--workers", "1", "ab.txt"].as_slice(),
+            AB,
             0,
             0,
-            b"words 3 distinct 2\n2 a\n1 b\n".as_slice(),
+            Some(2),
+            COUNTS,
             b"".as_slice(),
+        ),
+        (
+            &["ab.txt", "ab.txt"],
+            AB,
+            0,
+            0,
+            Some(6),
+            b"words 6 distinct 2\n4 a\n2 b\n",
+            b"",
         ),
         (
             &["ab.txt"],
             &[97, 255, 0, 98, 10],
             0,
             0,
+            Some(5),
             b"words 1 distinct 1\n1 a\xff\x00b\n",
             b"",
         ),
-        (&["ab.txt"], b"", 0, 0, b"words 0 distinct 0\n", b""),
-        (&[], ab, 2, 8, b"", b"bbq-profile: usage: input\n"),
-        (&["ab.txt", "ab.txt"], ab, 2, 1, b"", usage),
-        (&["-ab.txt"], ab, 2, 1, b"", usage),
         (
-            &["no such.txt"],
-            ab,
-            4,
+            &["--blocks", "2", "--size", "1", "--piece", "1", "ab.txt"],
+            b"to be or not to be\n",
             0,
+            0,
+            Some(11),
+            b"words 6 distinct 4\n2 be\n1 not\n1 or\n2 to\n",
+            b"",
+        ),
+        (&[], AB, 2, 8, None, b"", b"bbq-profile: usage: input\n"),
+        (
+            &["--blocks", "1", "ab.txt"],
+            AB,
+            2,
+            4,
+            None,
+            b"",
+            b"bbq-profile: usage: blocks\n",
+        ),
+        (
+            &["ab.txt", "no such.txt"],
+            AB,
+            4,
+            1,
+            None,
             b"",
             b"bbq-profile: cannot read no such.txt\n",
         ),
     ] {
-        let held = Vec::from_slice(alloc, bytes)?;
-        let left = tried(alloc, words, held, Vec::new(alloc), 100, 500)?;
+        let left = tried(
+            &rt,
+            alloc,
+            words,
+            "ab.txt",
+            Vec::from_slice(alloc, bytes)?,
+            &AMPLE,
+        )?;
         assert_eq!(rt; left.status, status);
         assert_eq!(rt; left.detail, detail);
+        assert_eq!(rt; left.accepted, accepted);
         assert_eq!(rt; left.out.bytes(), out);
         assert_eq!(rt; left.messages.bytes(), message);
         assert_eq!(rt; left.trace.documents(), usize::from(status == 0));
@@ -104,27 +179,45 @@ fn counts_one_file_or_names_the_refusal(rt: HostRuntime) -> Result<(), Fail> {
 }
 
 #[test]
-fn traces_the_worker_and_its_piece(rt: HostRuntime) -> Result<(), Fail> {
+fn traces_each_worker(rt: HostRuntime) -> Result<(), Fail> {
     let alloc = rt.alloc();
-    let held = Vec::from_slice(alloc, b"a b a\n")?;
-    let left = tried(alloc, &["ab.txt"], held, Vec::new(alloc), 100, 500)?;
-    assert_eq!(rt; left.status, 0);
-    assert_eq!(rt; left.trace.name(0), Some("trace.json"));
-    assert_eq!(rt; left.trace.bytes(0), Some(TRACE.as_bytes()));
+    for (workers, bytes, trace, counts) in [
+        ("1", AB, TRACE, COUNTS),
+        (
+            "2",
+            b"".as_slice(),
+            IDLE,
+            b"words 0 distinct 0\n".as_slice(),
+        ),
+    ] {
+        let words = ["--trace", "t.json", "--workers", workers, "ab.txt"];
+        let left = tried(
+            &rt,
+            alloc,
+            &words,
+            "ab.txt",
+            Vec::from_slice(alloc, bytes)?,
+            &AMPLE,
+        )?;
+        assert_eq!(rt; left.status, 0);
+        assert_eq!(rt; left.out.bytes(), counts);
+        assert_eq!(rt; left.trace.name(0), Some("t.json"));
+        assert_eq!(rt; left.trace.bytes(0), Some(trace.as_bytes()));
+    }
     Ok(())
 }
 
 #[test]
 fn names_a_failed_read_or_write(rt: HostRuntime) -> Result<(), Fail> {
     let alloc = rt.alloc();
-    let counts = b"words 3 distinct 2\n2 a\n1 b\n".as_slice();
-    for (fails, room, trace_room, status, out, trace, message) in [
+    for (fails, room, trace_room, status, accepted, out, trace, message) in [
         // The first call starts the file, and the third is its second read.
         (
             [2].as_slice(),
             100,
             500,
             4,
+            None,
             b"".as_slice(),
             None,
             b"bbq-profile: cannot read ab.txt\n".as_slice(),
@@ -134,6 +227,7 @@ fn names_a_failed_read_or_write(rt: HostRuntime) -> Result<(), Fail> {
             5,
             500,
             5,
+            Some(2),
             b"words",
             None,
             b"bbq-profile: cannot write counts\n",
@@ -144,16 +238,29 @@ fn names_a_failed_read_or_write(rt: HostRuntime) -> Result<(), Fail> {
             100,
             20,
             9,
-            counts,
+            Some(2),
+            COUNTS,
             Some(b"{\"displayT".as_slice()),
             b"bbq-profile: cannot write trace\n",
         ),
     ] {
-        let held = Vec::from_slice(alloc, b"a b a\n")?;
-        let fails = Vec::from_slice(alloc, fails)?;
-        let left = tried(alloc, &["ab.txt"], held, fails, room, trace_room)?;
+        let world = World {
+            fails,
+            room,
+            trace_room,
+        };
+        let words = ["--workers", "1", "ab.txt"];
+        let left = tried(
+            &rt,
+            alloc,
+            &words,
+            "ab.txt",
+            Vec::from_slice(alloc, AB)?,
+            &world,
+        )?;
         assert_eq!(rt; left.status, status);
         assert_eq!(rt; left.detail, 0);
+        assert_eq!(rt; left.accepted, accepted);
         assert_eq!(rt; left.out.bytes(), out);
         assert_eq!(rt; left.trace.bytes(0), trace);
         assert_eq!(rt; left.messages.bytes(), message);
@@ -162,18 +269,96 @@ fn names_a_failed_read_or_write(rt: HostRuntime) -> Result<(), Fail> {
 }
 
 #[test]
-fn refuses_one_byte_too_many(rt: HostRuntime) -> Result<(), Fail> {
+fn refuses_too_large_texts(rt: HostRuntime) -> Result<(), Fail> {
     let alloc = rt.alloc();
-    for (len, status, message) in [
-        (67_108_864, 0, b"".as_slice()),
-        (67_108_865, 6, b"bbq-profile: file too large: ab.txt\n"),
+    for (len, words, status, message) in [
+        (
+            67_108_865,
+            ["a"].as_slice(),
+            6,
+            b"bbq-profile: file too large: a\n".as_slice(),
+        ),
+        (
+            67_108_864,
+            &["a", "a", "a", "a", "a"],
+            7,
+            b"bbq-profile: input too large\n",
+        ),
     ] {
         let mut held = Vec::new(alloc);
         held.resize(len, b' ')?;
-        let left = tried(alloc, &["ab.txt"], held, Vec::new(alloc), 100, 1 << 20)?;
+        let left = tried(&rt, alloc, words, "a", held, &AMPLE)?;
         assert_eq!(rt; left.status, status);
         assert_eq!(rt; left.detail, 0);
         assert_eq!(rt; left.messages.bytes(), message);
+        assert_eq!(rt; left.accepted, None);
+    }
+    Ok(())
+}
+
+#[test]
+fn refuses_one_piece_too_many(rt: HostRuntime) -> Result<(), Fail> {
+    let alloc = rt.alloc();
+    let mut held = Vec::from_slice(alloc, b"a")?;
+    for _ in 0..1_048_576 {
+        held.extend_from_slice(b" a")?;
+    }
+    let left = tried(&rt, alloc, &["--piece", "1", "a"], "a", held, &AMPLE)?;
+    assert_eq!(rt; left.status, 8);
+    assert_eq!(rt;
+        left.messages.bytes(),
+        b"bbq-profile: too many pieces\n".as_slice()
+    );
+    assert_eq!(rt; left.accepted, None);
+    Ok(())
+}
+
+/// Notes an event four times.
+fn noted_four_times<X: Wait, R: Rail>(
+    rt: &X,
+    alloc: Global,
+    rail: &R,
+    seat: &mut R::Seat,
+    batch: &mut Batch,
+    event: &SpanEvent,
+) -> Result<(), AllocError>
+    requires puts { R.PutsInto rail.now seat.old }
+    requires takes { R.TakesFrom rail.now seat.old }
+    requires width { (R.shape_of rail.now).width ≡ SPAN_WORDS }
+    requires fresh { R.made seat.old ≡ [] }
+    requires tid { IsTid event.now.tid }
+    ensures puts { R.PutsInto rail.now seat.new }
+    ensures takes { R.TakesFrom rail.now seat.new }
+    ensures made { OnOk result (length (R.made seat.new) ≡ 4) }
+{
+    for _ in 0_u64..4 {
+        note_span(rt, alloc, rail, seat, batch, event)?;
+    }
+    Ok(())
+}
+
+#[test]
+fn a_full_queue_is_helped_and_then_noted_in(rt: HostRuntime) -> Result<(), Fail> {
+    let alloc = rt.alloc();
+    let (rail, mut seat) = SoloRetry::make(alloc, Shape::new(2, 2, 6, 1)?)?;
+    let mut batch = Batch::new(alloc);
+    let event = SpanEvent {
+        kind: SpanKind::Worker,
+        tid: 1,
+        ts: 0,
+        dur: 3,
+        file: 0,
+        piece: 1,
+        words: 3,
+    };
+    noted_four_times(&rt, alloc, &rail, &mut seat, &mut batch, &event)?;
+    assert_eq!(rt; batch.len(), 0);
+    note_span(&rt, alloc, &rail, &mut seat, &mut batch, &event)?;
+    assert_eq!(rt; SoloRetry::puts(&seat), 5);
+    assert_eq!(rt; batch.len(), 2);
+    for (index, item) in batch.as_slice().iter().enumerate() {
+        assert_eq!(rt; item.place, index as u64);
+        assert_eq!(rt; item.words.words(), encode(&event).as_slice());
     }
     Ok(())
 }
