@@ -1,6 +1,6 @@
 #!/usr/bin/env bash
 # Times the word count against wc -w and a pipeline of tr, sort and uniq on two texts, three runs each,
-# and prints the ratios of the least times.
+# and prints the ratios of the least times. What the spans cost is the ratio to a run over the same text in few pieces.
 set -eu
 top=$(cd "$(dirname "$0")/.." && pwd)
 folder=$(mktemp -d)
@@ -35,6 +35,7 @@ for text in few.txt many.txt; do
     ours=$(least "$top/crates/profile_cli/out/profile_cli" "$text")
     wc=$(least wc -w "$text")
     pipe=$(least pipeline "$text")
-    awk -v t="$text" -v o="$ours" -v w="$wc" -v p="$pipe" 'BEGIN {
-        printf "%s: bbq-profile %d ms, wc -w %d ms, pipeline %d ms; to wc -w %.2f, pipeline to bbq-profile %.1f\n", t, o, w, p, o / w, p / o }'
+    few=$(least "$top/crates/profile_cli/out/profile_cli" --workers 1 --piece 16777216 "$text")
+    awk -v t="$text" -v o="$ours" -v w="$wc" -v p="$pipe" -v f="$few" 'BEGIN {
+        printf "%s: bbq-profile %d ms, in few pieces %d ms, wc -w %d ms, pipeline %d ms; to few pieces %.3f, to wc -w %.2f, pipeline to bbq-profile %.1f\n", t, o, f, w, p, o / f, o / w, p / o }'
 done
