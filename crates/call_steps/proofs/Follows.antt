@@ -23,6 +23,7 @@ use Rattle.bbq_core.specs.TakeSteps.{after_take, is_same, moved_on, passed}
 use Rattle.bbq_core.specs.Machine.{made_after, read_after, taken_after}
 use Rattle.bbq_core.specs.Counts.{IsPutting, IsTaking}
 use Rattle.bbq_core.proofs.TakeLoads.{pick_less}
+use Rattle.call_steps.specs.Midway.{Gathers}
 use Rattle.call_steps.specs.Call.{PutLeaves, ReadsWithin, TakeLeaves, out_after}
 
 pub pick : (P : After → Type 0) (b : Bool) (x y : After) → P x → P y → P (if b then x else y)
@@ -79,12 +80,6 @@ put_follows g made entry p n h = (tt, refl)
 pub put_takes_none : (g : Grid) (taken : List Placed) (read : List ℕ) (p : Phase) → IsPutting (Some p) → taken_after g taken read p ≡ taken
 put_takes_none g taken read (phase.Take q) h = absurd h
 put_takes_none g taken read p h = refl
-
--- the words that a take has read stand in the front of its buffer, which is as it was before
-abbrev pub Gathers : Phase → List ℕ → List ℕ → List ℕ → Type 0
-Gathers (phase.Take (Read at next)) old out read = take next out ≡ read
-Gathers (phase.Take (Consume at)) old out read = out ≡ read
-Gathers p old out read = (out ≡ old) × (read ≡ [])
 
 -- a take goes on as a take, and takes what is in its buffer where it answers Ok
 abbrev pub TakeFollows : List Placed → List Placed → List ℕ → List ℕ → List ℕ → After → Type 0

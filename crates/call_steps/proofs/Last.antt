@@ -1,6 +1,5 @@
 -- What the rule told at the last step of a call, of the seat as the call left it up to there.
-use Rattle.std.proofs.Common.{◌≡◌, ℕ, List, [], ◌∷◌, ◌++◌, refl, sym, ap, ◌∙◌, subst}
-use Rattle.std.specs.Prelude.{Option, Some, None}
+use Rattle.std.proofs.Common.{◌≡◌, ℕ, List, [], ◌∷◌, refl, sym, ap, ◌∙◌, subst}
 use Rattle.cursor_word.specs.Shape.{Grid}
 use Rattle.rail.specs.declared.entry.Placed.{Placed}
 use Rattle.rail.specs.declared.answer.Answer.{Answer}
@@ -13,7 +12,7 @@ use Rattle.bbq_core.specs.declared.view.View.{View}
 use Rattle.bbq_core.specs.declared.op.After.{After}
 use Rattle.bbq_core.specs.declared.op.After.TheVariants.{Next, Done}
 use Rattle.bbq_core.specs.PutSteps.{after}
-use Rattle.bbq_core.specs.Machine.{made_after, noted, seen, taken_after}
+use Rattle.bbq_core.specs.Machine.{made_after, seen, taken_after}
 use Rattle.call_steps.specs.Steps.{Leads, value_of}
 use Rattle.call_steps.specs.Rule.{IsMachines}
 use Rattle.call_steps.specs.Call.{Walks}

@@ -1,5 +1,5 @@
 -- A call in mid-way: what its loop keeps from step to step.
-use Rattle.std.proofs.Common.{◌≡◌, ◌≢◌, ℕ, ◌+◌, ◌<◌, ◌≤◌, List, [], ◌∷◌, ◌++◌, length, map, sym, refl, ap, ◌∙◌, subst, inl, arith, append_assoc, append-nil, length-append}
+use Rattle.std.proofs.Common.{◌≡◌, ◌≢◌, ℕ, ◌<◌, List, [], ◌∷◌, ◌++◌, length, map, sym, refl, ap, ◌∙◌, subst, inl, arith, append_assoc, append-nil, length-append}
 use Rattle.std.specs.Prelude.{Option, Some, None}
 use Rattle.std.proofs.lemmas.List.{map-append}
 use Rattle.cursor_word.specs.Shape.{Grid}
@@ -22,11 +22,11 @@ use Rattle.bbq_core.specs.declared.op.After.TheVariants.{Next, Done}
 use Rattle.bbq_core.specs.PutSteps.{FindsFit, IsInRange, after, first_put, rank, want}
 use Rattle.bbq_core.specs.TakeSteps.{first_take}
 use Rattle.bbq_core.specs.Machine.{answer_after, begun, index, made_after, moved, noted, phase_after, read_after, seen, taken_after}
-use Rattle.bbq_core.specs.Counts.{IsPutting, IsTaking}
 use Rattle.call_steps.specs.Steps.{Leads, logged, value_of}
 use Rattle.call_steps.specs.Rule.{DoesStep, IsAfterInRange, IsMachines, MayDo, MayFind, Moves, in_call, in_phase}
 use Rattle.call_steps.specs.Call.{HasPut, HasTaken, PutLeaves, ReadsWithin, TakeLeaves, TookSteps, Walks, out_after}
-use Rattle.call_steps.proofs.Follows.{Gathers, PutFollows, TakeFollows, out_long, put_follows, put_takes_none, reads_within, take_follows, take_makes_none, wants_alike}
+use Rattle.call_steps.specs.Midway.{Gathers, IsAt, IsPutAt, IsPutOn, IsTakeAt, IsTakeOn, steps_left}
+use Rattle.call_steps.proofs.Follows.{PutFollows, TakeFollows, out_long, put_follows, put_takes_none, reads_within, take_follows, take_makes_none, wants_alike}
 use Rattle.call_steps.proofs.Phases.{Below, falls, rank_some}
 
 leads_on : (g : Grid) (entry : List ℕ) (s : After) (ks : List Taken) (p : Phase) (k : Taken) (t : After) → Leads g entry s ks (Next p) → k ≡ logged (want g p entry) (value_of k) → after g p (value_of k) ≡ t
@@ -37,6 +37,10 @@ leads_on g entry (Done b) (j ∷ js) p k t l wanted follows = l
 
 pub falls_on : (g : Grid) (p : Phase) (n : ℕ) (q : Phase) → after g p n ≡ Next q → IsInRange g p → rank g q < rank g p
 falls_on g p n q is h = subst (Below g (rank g p)) is (falls g p n h)
+
+pub left_falls : (g : Grid) (p : Phase) (n : ℕ) (t : After) → after g p n ≡ t → IsInRange g p → steps_left g t < rank g p
+left_falls g p n (Next q) is h = falls_on g p n q is h
+left_falls g p n (Done a) is h = let some = rank_some g p in omega arith
 
 noted_value : (o : Op) (n : ℕ) → noted o n ≡ value_of (logged o n)
 noted_value (Load i) n = refl
@@ -67,39 +71,12 @@ module _ {V : Type 0} (moves_to : V → Phase → ℕ → V) (Tells : V → Phas
   walks_on g entry (Done b) v (j ∷ js) u p k w walk l tells moves = l
 
 module _ {V : Type 0} (grid_of : V → Grid) (view_of : V → View) (Sits : V → Type 0) (begins : V → Start → V) (moves_to : V → Phase → ℕ → V) (Tells : V → Phase → ℕ → Type 0) where
-  -- a call is at phase p
-  pub record IsAt (g : Grid) (entry : List ℕ) (s : Start) (first : Phase) (old now : Sitting V) (p : Phase) : Type 0 where
-    pub same : now.id ≡ old.id
-    pub grid : grid_of now.view ≡ g
-    pub sits : Sits now.view
-    pub may : MayDo g (view_of now.view) s
-    pub in_range : IsInRange g p
-    pub here : (view_of (in_call view_of begins now.view s)).phase ≡ Some p
-    pub wants : want g p (view_of (in_call view_of begins now.view s)).entry ≡ want g p entry
-    pub steps : List Taken
-    pub leads : Leads g entry (Next first) steps (Next p)
-    pub walk : Walks moves_to Tells g (Next first) (begins old.view s) steps (in_call view_of begins now.view s)
-    pub values : (view_of (in_call view_of begins now.view s)).trail ≡ map value_of steps
-    pub bound : length steps + rank g p ≤ rank g first
-    pub log : now.log ≡ old.log ++ steps
+  -- a call that goes on is at the phase that follows
+  pub put_at : (g : Grid) (entry : List ℕ) (s : Start) (old now : Sitting V) (t : After) (p : Phase) → t ≡ Next p → IsPutOn grid_of view_of Sits begins moves_to Tells g entry s old now t → IsPutAt grid_of view_of Sits begins moves_to Tells g entry s old now p
+  put_at g entry s old now t p is on = subst (λ (z : After). IsPutOn grid_of view_of Sits begins moves_to Tells g entry s old now z) is on
 
-  -- a put in mid-way
-  pub record IsPutAt (g : Grid) (entry : List ℕ) (s : Start) (old now : Sitting V) (p : Phase) : Type 0 where
-    pub at : IsAt g entry s first_put old now p
-    pub putting : IsPutting (Some p)
-    pub in_hand : (view_of (in_call view_of begins now.view s)).entry ≡ entry
-    pub made : (view_of (in_call view_of begins now.view s)).made ≡ (view_of old.view).made
-    pub taken : (view_of (in_call view_of begins now.view s)).taken ≡ (view_of old.view).taken
-
-  -- a take in mid-way, with its caller's buffer
-  pub record IsTakeAt (g : Grid) (s : Start) (old now : Sitting V) (out_old out : List ℕ) (p : Phase) : Type 0 where
-    pub at : IsAt g [] s first_take old now p
-    pub taking : IsTaking (Some p)
-    pub in_hand : (view_of (in_call view_of begins now.view s)).entry ≡ (view_of old.view).entry
-    pub made : (view_of (in_call view_of begins now.view s)).made ≡ (view_of old.view).made
-    pub taken : (view_of (in_call view_of begins now.view s)).taken ≡ (view_of old.view).taken
-    pub long : length out ≡ g.width
-    pub gathers : Gathers p out_old out (view_of (in_call view_of begins now.view s)).read
+  pub take_at : (g : Grid) (s : Start) (old now : Sitting V) (out_old out : List ℕ) (t : After) (p : Phase) → t ≡ Next p → IsTakeOn grid_of view_of Sits begins moves_to Tells g s old now out_old out t → IsTakeAt grid_of view_of Sits begins moves_to Tells g s old now out_old out p
+  take_at g s old now out_old out t p is on = subst (λ (z : After). IsTakeOn grid_of view_of Sits begins moves_to Tells g s old now out_old out z) is on
 
   module _ {K : Type 0} (holds : K → List ℕ → List V → Type 0) (laws : IsMachines holds grid_of view_of Sits begins moves_to Tells) where
     grid_in_call : (v : V) (s : Start) (ph : Option Phase) → Sits v → (view_of v).phase ≡ ph → grid_of (in_phase view_of begins v s ph) ≡ grid_of v
@@ -119,7 +96,7 @@ module _ {V : Type 0} (grid_of : V → Grid) (view_of : V → View) (Sits : V �
     begins_view v s sits rest = ap view_of (ap (in_phase view_of begins v s) rest) ∙ (laws.call_begins v s sits rest).0
 
     begins_at : (g : Grid) (entry : List ℕ) (s : Start) (first : Phase) (old : Sitting V) → grid_of old.view ≡ g → Sits old.view → (view_of old.view).phase ≡ None → MayDo g (view_of old.view) s → IsInRange g first
-        → (begun (view_of old.view) None s).phase ≡ Some first → want g first (begun (view_of old.view) None s).entry ≡ want g first entry → (begun (view_of old.view) None s).trail ≡ [] → IsAt g entry s first old old first
+        → (begun (view_of old.view) None s).phase ≡ Some first → want g first (begun (view_of old.view) None s).entry ≡ want g first entry → (begun (view_of old.view) None s).trail ≡ [] → IsAt grid_of view_of Sits begins moves_to Tells g entry s first old old first
     begins_at g entry s first old grid sits rest may range here wants none =
         let u : in_call view_of begins old.view s ≡ begins old.view s = ap (in_phase view_of begins old.view s) rest in
         let v = begins_view old.view s sits rest in
@@ -139,7 +116,7 @@ module _ {V : Type 0} (grid_of : V → Grid) (view_of : V → View) (Sits : V �
           log = sym (append-nil old.log);
         }
 
-    module _ (g : Grid) (entry : List ℕ) (s : Start) (first : Phase) (old now : Sitting V) (p : Phase) (i : IsAt g entry s first old now p) where
+    module _ (g : Grid) (entry : List ℕ) (s : Start) (first : Phase) (old now : Sitting V) (p : Phase) (i : IsAt grid_of view_of Sits begins moves_to Tells g entry s first old now p) where
       -- the step of the phase keeps the rule
       pub keeps_here : (key : K) (pick : Start) (o : Op) → pick ≡ s → o ≡ want g p entry → Keeps (holds key) now.view (index o) (moved o) (λ n. DoesStep view_of begins moves_to Tells pick now.view (logged o n))
       keeps_here key pick o picks wants =
@@ -212,7 +189,7 @@ module _ {V : Type 0} (grid_of : V → Grid) (view_of : V → View) (Sits : V �
           pub goes_on_view : in_call view_of begins next.view s ≡ next.view
           goes_on_view = ap (in_phase view_of begins next.view s) at_next
 
-          goes_on : (view_of next.view).made ≡ (view_of here_view).made → want g q (view_of next.view).entry ≡ want g q entry → IsAt g entry s first old next q
+          goes_on : (view_of next.view).made ≡ (view_of here_view).made → want g q (view_of next.view).entry ≡ want g q entry → IsAt grid_of view_of Sits begins moves_to Tells g entry s first old next q
           goes_on made wants_next =
               let u = goes_on_view in
               let less = falls_on g p x q is i.in_range in
@@ -244,9 +221,9 @@ module _ {V : Type 0} (grid_of : V → Grid) (view_of : V → View) (Sits : V �
         same_next = ap (λ (t : Sitting V). t.id) logs ∙ i.same
 
     pub put_begins : (g : Grid) (entry : List ℕ) (s : Start) (old : Sitting V) (p : Phase) → p ≡ first_put → s ≡ start.Put entry → grid_of old.view ≡ g → Sits old.view → (view_of old.view).phase ≡ None → length entry ≡ g.width
-        → length (view_of old.view).made < most_puts → IsPutAt g entry s old old p
+        → length (view_of old.view).made < most_puts → IsPutAt grid_of view_of Sits begins moves_to Tells g entry s old old p
     put_begins g entry s old p is picks grid sits rest wide room = let v = begins_view old.view (start.Put entry) sits rest in
-        subst (IsPutAt g entry s old old) (sym is) (subst (λ (k : Start). IsPutAt g entry k old old first_put) (sym picks)
+        subst (IsPutAt grid_of view_of Sits begins moves_to Tells g entry s old old) (sym is) (subst (λ (k : Start). IsPutAt grid_of view_of Sits begins moves_to Tells g entry k old old first_put) (sym picks)
         record {
           at = begins_at g entry (start.Put entry) first_put old grid sits rest (wide, room) (inl refl) refl refl refl;
           putting = tt;
@@ -255,7 +232,7 @@ module _ {V : Type 0} (grid_of : V → Grid) (view_of : V → View) (Sits : V �
           taken = ap (λ (w : View). w.taken) v;
         })
 
-    module _ (g : Grid) (entry : List ℕ) (s : Start) (old now : Sitting V) (p : Phase) (i : IsPutAt g entry s old now p) (x : ℕ) (pick : Start) (o : Op) (next : Sitting V) (picks : pick ≡ s) (wants : o ≡ want g p entry)
+    module _ (g : Grid) (entry : List ℕ) (s : Start) (old now : Sitting V) (p : Phase) (i : IsPutAt grid_of view_of Sits begins moves_to Tells g entry s old now p) (x : ℕ) (pick : Start) (o : Op) (next : Sitting V) (picks : pick ≡ s) (wants : o ≡ want g p entry)
         (logs : next ≡ record { id = now.id; view = next.view; log = now.log ++ logged o x ∷ [] }) (told : DoesStep view_of begins moves_to Tells pick now.view (logged o x) next.view) (value : x ≡ value_of (logged o x)) where
       abbrev put_here : View
       put_here = view_of (in_call view_of begins now.view s)
@@ -273,7 +250,7 @@ module _ {V : Type 0} (grid_of : V → Grid) (view_of : V → View) (Sits : V �
       put_hand : (view_of next.view).entry ≡ entry
       put_hand = ap (λ (w : View). w.entry) put_view ∙ i.in_hand
 
-      pub put_goes_on : (q : Phase) → after g p x ≡ Next q → IsPutAt g entry s old next q
+      pub put_goes_on : (q : Phase) → after g p x ≡ Next q → IsPutAt grid_of view_of Sits begins moves_to Tells g entry s old next q
       put_goes_on q is =
           let f = put_lists (Next q) is in
           let u = goes_on_view g entry s first_put old now p i.at x pick o next picks wants logs told value q is in
@@ -298,9 +275,20 @@ module _ {V : Type 0} (grid_of : V → Grid) (view_of : V → View) (Sits : V �
         in_hand = put_hand;
       }
 
-    pub take_begins : (g : Grid) (s : Start) (old : Sitting V) (out : List ℕ) (p : Phase) → p ≡ first_take → s ≡ start.Take → grid_of old.view ≡ g → Sits old.view → (view_of old.view).phase ≡ None → length out ≡ g.width → IsTakeAt g s old old out out p
+      pub put_on : (t : After) → after g p x ≡ t → IsPutOn grid_of view_of Sits begins moves_to Tells g entry s old next t
+      put_on (Next q) is = put_goes_on q is
+      put_on (Done (answer.Take a)) is = put_answers_put a is
+      put_on (Done (answer.Put a)) is = record {
+        same = same_next g entry s first_put old now p i.at x pick o next picks wants logs told value;
+        grid = grid_next g entry s first_put old now p i.at x pick o next picks wants logs told value;
+        sits = sits_next g entry s first_put old now p i.at x pick o next picks wants logs told value;
+        view = put_leaves a is;
+        steps = ends g entry s first_put old now p i.at x pick o next picks wants logs told value (answer.Put a) is;
+      }
+
+    pub take_begins : (g : Grid) (s : Start) (old : Sitting V) (out : List ℕ) (p : Phase) → p ≡ first_take → s ≡ start.Take → grid_of old.view ≡ g → Sits old.view → (view_of old.view).phase ≡ None → length out ≡ g.width → IsTakeAt grid_of view_of Sits begins moves_to Tells g s old old out out p
     take_begins g s old out p is picks grid sits rest long = let v = begins_view old.view start.Take sits rest in
-        subst (IsTakeAt g s old old out out) (sym is) (subst (λ (k : Start). IsTakeAt g k old old out out first_take) (sym picks)
+        subst (IsTakeAt grid_of view_of Sits begins moves_to Tells g s old old out out) (sym is) (subst (λ (k : Start). IsTakeAt grid_of view_of Sits begins moves_to Tells g k old old out out first_take) (sym picks)
         record {
           at = begins_at g [] start.Take first_take old grid sits rest tt (inl refl) refl refl refl;
           taking = tt;
@@ -311,7 +299,7 @@ module _ {V : Type 0} (grid_of : V → Grid) (view_of : V → View) (Sits : V �
           gathers = (refl, ap (λ (w : View). w.read) v);
         })
 
-    module _ (g : Grid) (s : Start) (old now : Sitting V) (out_old out : List ℕ) (p : Phase) (i : IsTakeAt g s old now out_old out p) where
+    module _ (g : Grid) (s : Start) (old now : Sitting V) (out_old out : List ℕ) (p : Phase) (i : IsTakeAt grid_of view_of Sits begins moves_to Tells g s old now out_old out p) where
       -- what a take asks of its buffer, and of the step that its phase wants
       pub take_wants : want g p out ≡ want g p []
       take_wants = wants_alike g p out [] i.taking
@@ -341,7 +329,7 @@ module _ {V : Type 0} (grid_of : V → Grid) (view_of : V → View) (Sits : V �
         take_hand : (view_of next.view).entry ≡ (view_of old.view).entry
         take_hand = ap (λ (w : View). w.entry) take_view ∙ i.in_hand
 
-        pub take_goes_on : (q : Phase) → after g p x ≡ Next q → IsTakeAt g s old next out_old out' q
+        pub take_goes_on : (q : Phase) → after g p x ≡ Next q → IsTakeAt grid_of view_of Sits begins moves_to Tells g s old next out_old out' q
         take_goes_on q is =
             let f = take_lists (Next q) is in
             let u = goes_on_view g [] s first_take old now p i.at x pick o next picks (wants ∙ take_wants) logs told value q is in
@@ -366,4 +354,15 @@ module _ {V : Type 0} (grid_of : V → Grid) (view_of : V → View) (Sits : V �
           taken = subst (λ (l : List Placed). TakeLeaves l (view_of next.view).taken out_old out' a) i.taken (take_lists (Done (answer.Take a)) is);
           answer = ap (λ (w : View). w.answer) take_view ∙ ap (answer_after take_here.answer) is;
           in_hand = take_hand;
+        }
+
+        pub take_on : (t : After) → after g p x ≡ t → IsTakeOn grid_of view_of Sits begins moves_to Tells g s old next out_old out' t
+        take_on (Next q) is = take_goes_on q is
+        take_on (Done (answer.Put a)) is = take_answers_take a is
+        take_on (Done (answer.Take a)) is = let w = wants ∙ take_wants in record {
+          same = same_next g [] s first_take old now p i.at x pick o next picks w logs told value;
+          grid = grid_next g [] s first_take old now p i.at x pick o next picks w logs told value;
+          sits = sits_next g [] s first_take old now p i.at x pick o next picks w logs told value;
+          view = take_leaves a is;
+          steps = ends g [] s first_take old now p i.at x pick o next picks w logs told value (answer.Take a) is;
         }

@@ -1,6 +1,6 @@
 -- What a call answers is what a queue promises of it, from what the rule told at its last step.
-use Rattle.std.proofs.Common.{◌≡◌, ℕ, ◌+◌, ◌≤◌, List, [], ◌∷◌, ◌++◌, length, map, refl, sym, ap, ◌∙◌, subst}
-use Rattle.std.specs.Prelude.{Option, Some, None, false, get_or}
+use Rattle.std.proofs.Common.{◌≡◌, ℕ, List, [], ◌∷◌, ◌++◌, length, refl, sym, ap, ◌∙◌, subst}
+use Rattle.std.specs.Prelude.{None, false, get_or}
 use Rattle.std.proofs.Math.Seq.{get_or-append_seam}
 use Rattle.cursor_word.specs.Shape.{Grid}
 use Rattle.rail.specs.Items.{placed}
@@ -23,7 +23,7 @@ use Rattle.bbq_core.specs.Machine.{MachineState, begun, made_after, seen, taken_
 use Rattle.bbq_core.proofs.Outcomes.{Tells}
 use Rattle.bbq_core.proofs.Trails.{TrailShows, put_begins, take_begins}
 use Rattle.bbq_core.proofs.Promises.{HandsOut, put_promised, take_promised}
-use Rattle.call_steps.specs.Steps.{Leads, value_of}
+use Rattle.call_steps.specs.Steps.{Leads}
 use Rattle.call_steps.specs.Rule.{IsMachines}
 use Rattle.call_steps.specs.Call.{HasPut, HasTaken, TakeLeaves, TookSteps, Walks}
 use Rattle.call_steps.proofs.Last.{LastTold, last_told}

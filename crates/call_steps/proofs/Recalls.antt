@@ -1,6 +1,5 @@
 -- The steps that a call took show the two values of a Busy answer.
 use Rattle.std.proofs.Common.{◌≡◌, ℕ, List, [], ◌∷◌, ◌++◌, map, append_assoc, append-nil, refl, sym, ap, ◌∙◌, subst}
-use Rattle.std.specs.Prelude.{Option, Some, None}
 use Rattle.cursor_word.specs.Shape.{Grid}
 use Rattle.rail.specs.declared.answer.Answer.{Answer}
 use Rattle.step_log.specs.declared.step.Taken.{Taken}

@@ -1,14 +1,10 @@
 -- The value that a step leaves in its log is the one that it found, but for a store, where nothing depends on it.
-use Rattle.std.proofs.Common.{◌≡◌, ℕ, ◌+◌, ◌-◌, ◌*◌, ◌/◌, ◌%◌, ◌≤◌, List, [], ◌∷◌, ◌++◌, length, length-append, refl, sym, ap, ◌∙◌, subst, arith}
-use Rattle.std.specs.Prelude.{Bool, true, false, Option, Some, None, if◌then◌else◌, ◌==◌, nat_lt}
+use Rattle.std.proofs.Common.{◌≡◌, ℕ, ◌+◌, ◌%◌, ◌≤◌, List, [], ◌∷◌, length-append, refl, ap, arith}
+use Rattle.std.specs.Prelude.{Option, Some, None, nat_lt}
 use Rattle.cursor_word.specs.Shape.{Grid}
-use Rattle.cursor_word.specs.Cursor.{offset_span, packed, place_at, unpacked}
+use Rattle.cursor_word.specs.Cursor.{offset_span, place_at, unpacked}
 use Rattle.cursor_word.specs.declared.cursor.Cursor.{Cursor}
 use Rattle.rail.specs.Items.{placed}
-use Rattle.rail.specs.Rail.{most_puts}
-use Rattle.rail.specs.declared.answer.Take.TheVariants as take
-use Rattle.rail.specs.declared.answer.Why.TheVariants as why
-use Rattle.rail.specs.declared.answer.Answer.TheVariants as answer
 use Rattle.bbq_core.specs.declared.event.Start.{Start}
 use Rattle.bbq_core.specs.declared.event.Start.TheVariants as start
 use Rattle.bbq_core.specs.declared.phase.Phase.{Phase}
@@ -19,7 +15,7 @@ use Rattle.bbq_core.specs.declared.view.View.{View}
 use Rattle.bbq_core.specs.declared.op.After.{After}
 use Rattle.bbq_core.specs.declared.op.After.TheVariants.{Next, Done}
 use Rattle.bbq_core.specs.PutSteps.{FindsFit, after, want}
-use Rattle.bbq_core.specs.TakeSteps.{after_take, is_same, passed}
+use Rattle.bbq_core.specs.TakeSteps.{after_take, passed}
 use Rattle.bbq_core.specs.Counts.{IsTaking}
 use Rattle.bbq_core.specs.Machine.{begun, phase_after, seen}
 use Rattle.call_steps.specs.Rule.{HasRoom, MayDo, may_make}

@@ -14,7 +14,8 @@ use Rattle.retry_rail.specs.declared.holding.Holding.{Holding}
 use Rattle.rail.specs.Outcome.{numbers_below}
 use Rattle.bbq_core.specs.Machine.{resting}
 use Rattle.retry_rail.specs.Holding.{first_seat, holding, joint_seats, other_seats}
-use Rattle.retry_rail.specs.Retry.{Gathering, Queue, Seated}
+use Rattle.call_steps.specs.Queue.{Queue}
+use Rattle.retry_rail.specs.Retry.{Gathering, Seated}
 
 module _ {A : Type 0} where
   pub take_replicate : (n : ℕ) (x : A) → 0 < n → take 1 (replicate n x) ≡ x ∷ []

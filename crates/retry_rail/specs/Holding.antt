@@ -7,6 +7,7 @@ use Rattle.bbq_core.specs.declared.view.View.{View}
 use Rattle.bbq_core.specs.Machine.{resting}
 use Rattle.bbq_core.specs.Sound.{IsSound}
 use Rattle.call_steps.specs.Rule.{HasRoom}
+use Rattle.call_steps.specs.Queue.{no_grid}
 use Rattle.retry_rail.specs.declared.holding.Holding.{Holding}
 
 abbrev pub holding : Grid → List View → Holding
@@ -36,9 +37,6 @@ other_seats h = holding h.shape (drop 1 h.views)
 
 abbrev pub joint_seats : Holding → Holding → Holding
 joint_seats h k = holding h.shape (h.views ++ k.views)
-
-abbrev pub no_grid : Grid
-no_grid = record { blocks = 0; size = 0; width = 0; seats = 0 }
 
 abbrev pub no_seats : Holding
 no_seats = holding no_grid []

@@ -10,12 +10,7 @@ use Rattle.step_log.specs.declared.step.Taken.{Taken}
 use Rattle.bbq_core.specs.declared.view.View.{View}
 use Rattle.bbq_core.specs.Machine.{AllRest, resting}
 use Rattle.retry_rail.specs.declared.holding.Holding.{Holding}
-use Rattle.retry_rail.specs.Holding.{no_grid}
-
--- which queue it is
-pub record Queue : Type 0 where
-  pub id : TableId
-  pub shape : Grid
+use Rattle.call_steps.specs.Queue.{Queue, no_grid}
 
 -- a seat: its queue, its number, what the machine knows of it, and the steps that it took
 pub record Seated : Type 0 where

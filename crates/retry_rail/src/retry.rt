@@ -9,7 +9,8 @@ ghost use Rattle.step_log.specs.declared.step.Taken.{Taken};
 ghost use Rattle.bbq_core.specs.PutSteps.{first_put};
 ghost use Rattle.bbq_core.specs.TakeSteps.{first_take};
 ghost use Rattle.call_steps.specs.Call.{TookSteps};
-ghost use Rattle.retry_rail.specs.Retry.{IsFresh, IsSeatOf, Queue, Seated};
+ghost use Rattle.call_steps.specs.Queue.{Queue};
+ghost use Rattle.retry_rail.specs.Retry.{IsFresh, IsSeatOf, Seated};
 ghost use Rattle.retry_rail.specs.Closed.{made_by_all, taken_by_all};
 
 use crate::rule::Holdings;
@@ -32,7 +33,7 @@ pub struct RetryRail {
 impl Model for RetryRail {
     ghost use Rattle.std.specs.Prelude.{◌≡◌};
     ghost use Rattle.cursor_word.specs.Layout.{word_count};
-    ghost use Rattle.retry_rail.specs.Retry.{Queue};
+    ghost use Rattle.call_steps.specs.Queue.{Queue};
 
     ghost Value = { Queue };
 

@@ -64,12 +64,43 @@ fn one_of_two_seats_fills_and_empties(rt: HostRuntime) -> Result<(), Fail> {
     Ok(())
 }
 
-// What was put and what was taken at each place: 0 where nothing was, else one more than a number for the entry.
+// How many calls were done, found the queue full or empty, and found it busy.
+#[derive(Drop)]
+struct Tally {
+    done: AtomicU64,
+    refused: AtomicU64,
+    busy: AtomicU64,
+}
+
+impl Tally {
+    fn none() -> Tally {
+        Tally {
+            done: AtomicU64::new(0),
+            refused: AtomicU64::new(0),
+            busy: AtomicU64::new(0),
+        }
+    }
+
+    fn sum(&self) -> u64 {
+        self.done
+            .load(Ordering::SeqCst)
+            .wrapping_add(self.refused.load(Ordering::SeqCst))
+            .wrapping_add(self.busy.load(Ordering::SeqCst))
+    }
+}
+
+fn one_more(count: &AtomicU64) {
+    count.fetch_add(1, Ordering::SeqCst);
+}
+
+// What was put and what was taken at each place: 0 where nothing was, else one more than a number for the entry. And how the calls were answered.
 #[derive(Drop)]
 struct Marks {
     put: Vec<AtomicU64>,
     taken: Vec<AtomicU64>,
     twice: AtomicU64,
+    puts: Tally,
+    takes: Tally,
 }
 
 fn zeros(alloc: Global, count: u64) -> Result<Vec<AtomicU64>, AllocError> {
@@ -99,6 +130,12 @@ impl Marks {
             Some(mark) => mark.load(Ordering::SeqCst),
             None => 0,
         }
+    }
+
+    // Every try of every producer and taker was answered, and none as overrun.
+    fn are_all(&self, case: &Case) -> bool {
+        self.puts.sum() == case.tries.wrapping_mul(case.producers)
+            && self.takes.sum() == case.tries.wrapping_mul(case.takers)
     }
 
     // All that was put below a place was taken once, with its words, and each seat's entries stand in its order.
@@ -142,10 +179,13 @@ fn put_once(queue: &RetryRail, seat: &mut RetrySeat, marks: &Marks, words: [u64;
     match queue.put(seat, words.as_slice()) {
         Put::Ok(place) => {
             marks.note(marks.put.as_slice(), place, words);
-            true
+            one_more(&marks.puts.done);
+            return true;
         }
-        _ => false,
+        Put::Full { .. } => one_more(&marks.puts.refused),
+        Put::Busy(_) => one_more(&marks.puts.busy),
     }
+    false
 }
 
 fn take_once(queue: &RetryRail, seat: &mut RetrySeat, marks: &Marks)
@@ -155,8 +195,14 @@ fn take_once(queue: &RetryRail, seat: &mut RetrySeat, marks: &Marks)
     ensures number { seat.new.number ≡ seat.old.number }
 {
     let mut words = [0; 2];
-    if let Take::Ok(place) = queue.take(seat, words.as_mut_slice()) {
-        marks.note(marks.taken.as_slice(), place, words);
+    match queue.take(seat, words.as_mut_slice()) {
+        Take::Ok(place) => {
+            marks.note(marks.taken.as_slice(), place, words);
+            one_more(&marks.takes.done);
+        }
+        Take::Empty { .. } => one_more(&marks.takes.refused),
+        Take::Busy(_) => one_more(&marks.takes.busy),
+        Take::Overrun { .. } => {}
     }
 }
 
@@ -230,8 +276,13 @@ fn passes<R: Threads + Sync>(rt: &R, alloc: Global, case: &Case) -> Result<bool,
         put: zeros(alloc, PLACES)?,
         taken: zeros(alloc, PLACES)?,
         twice: AtomicU64::new(0),
+        puts: Tally::none(),
+        takes: Tally::none(),
     };
     run_all(rt, &queue, seats.as_mut_slice(), &marks, case);
+    if !marks.are_all(case) {
+        return Ok(false);
+    }
     let Ok(done) = queue.close(alloc, seats) else {
         return Ok(false);
     };

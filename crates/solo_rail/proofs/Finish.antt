@@ -28,7 +28,8 @@ use Rattle.bbq_core.proofs.Settles.{settled}
 use Rattle.call_steps.specs.Rule.{HasRoom}
 use Rattle.solo_rail.specs.declared.holding.Holding.{Holding}
 use Rattle.solo_rail.specs.Holding.{IsHeld, Stands}
-use Rattle.solo_rail.specs.Solo.{IsSeatOf, Queue, Seated, number_of}
+use Rattle.call_steps.specs.Queue.{Queue}
+use Rattle.solo_rail.specs.Solo.{IsSeatOf, Seated, number_of}
 use Rattle.solo_rail.proofs.Kept.{made_one, only_at, taken_one}
 
 -- the seat's lists, and what is left in the words

@@ -12,6 +12,7 @@ use Rattle.bbq_core.specs.Machine.{MachineState, begun, resting, seen, start_sta
 use Rattle.bbq_core.specs.Alone.{AnswersAlone, IsAlone, IsStill}
 use Rattle.bbq_core.proofs.Outcomes.{Tells}
 use Rattle.call_steps.specs.Rule.{HasRoom, MayFind}
+use Rattle.call_steps.specs.Queue.{no_grid}
 use Rattle.solo_rail.specs.declared.holding.Holding.{Holding}
 
 abbrev pub holding : Grid → View → List ℕ → Holding
@@ -50,9 +51,6 @@ pub record TellsAlone (h : Holding) (p : Phase) (n : ℕ) : Type 0 where
 -- at the start
 abbrev pub first_holding : Grid → Holding
 first_holding g = holding g (resting g) (start_state g).words
-
-abbrev pub no_grid : Grid
-no_grid = record { blocks = 0; size = 0; width = 0; seats = 0 }
 
 -- no seat is ever taken in
 abbrev pub no_holding : Holding

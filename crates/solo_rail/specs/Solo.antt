@@ -10,11 +10,7 @@ use Rattle.rail.specs.declared.answer.Take.TheVariants as take
 use Rattle.step_log.specs.Log.{TableId}
 use Rattle.step_log.specs.declared.step.Taken.{Taken}
 use Rattle.bbq_core.specs.declared.view.View.{View}
-
--- which queue it is
-pub record Queue : Type 0 where
-  pub id : TableId
-  pub shape : Grid
+use Rattle.call_steps.specs.Queue.{Queue}
 
 -- the seat: its queue, what the machine knows of it, and the steps that it took
 pub record Seated : Type 0 where

@@ -12,7 +12,8 @@ ghost use Rattle.step_log.specs.declared.step.Taken.{Taken};
 ghost use Rattle.bbq_core.specs.PutSteps.{first_put};
 ghost use Rattle.bbq_core.specs.TakeSteps.{first_take};
 ghost use Rattle.call_steps.specs.Call.{TookSteps};
-ghost use Rattle.solo_rail.specs.Solo.{IsFresh, IsSeatOf, Queue, Seated, number_of, puts_in, takes_in, told_of};
+ghost use Rattle.call_steps.specs.Queue.{Queue};
+ghost use Rattle.solo_rail.specs.Solo.{IsFresh, IsSeatOf, Seated, number_of, puts_in, takes_in, told_of};
 
 use crate::rule::Alone;
 use call_steps::{read_left, run_put, run_take, start_words};
@@ -34,7 +35,7 @@ impl Model for SoloRetry {
     ghost use Rattle.std.specs.Prelude.{◌≡◌};
     ghost use Rattle.cursor_word.specs.Shape.{IsWithinLimits};
     ghost use Rattle.cursor_word.specs.Layout.{word_count};
-    ghost use Rattle.solo_rail.specs.Solo.{Queue};
+    ghost use Rattle.call_steps.specs.Queue.{Queue};
 
     ghost Value = { Queue };
 

@@ -1,30 +1,20 @@
-use Rattle.std.proofs.Common.{sym, refl, ap, ◌∙◌}
-use Rattle.bbq_core.specs.declared.op.After.TheVariants.{Done}
-use Rattle.call_steps.proofs.Loop.{ends, falls_on, grid_next, put_begins, put_goes_on, put_leaves, sits_next}
+use Rattle.call_steps.proofs.Loop.{put_at, put_begins}
 use Rattle.call_steps.proofs.calls.run_put.Goals as goal
 
-pub loop-next-init : goal.loop-next-init
-loop-next-init g c = let r = c.requires in put_begins _ _ _ _ _ _ _ c.requires.machine _ _ _ _ _ c.first_put-phase.ensures r.call r.shape r.sits r.rest r.width r.room
+pub put_while-state-requires-clause-on : goal.put_while-state-requires-clause-on
+put_while-state-requires-clause-on g c = let r = c.requires in let begun = put_begins _ _ _ _ _ _ _ r.machine _ _ _ _ _ c.first_put.ensures r.call r.shape r.sits r.rest r.width r.room in (c.args.seat.now, begun)
 
-pub loop-next-smaller : goal.loop-next-smaller
-loop-next-smaller g c = falls_on c.args.shape.now _ _ _ (sym c.after.ensures ∙ c.in-Next.is) c.loop-next.invariant.at.in_range
+pub put_while-state-requires-2-clause-on : goal.put_while-state-requires-2-clause-on
+put_while-state-requires-2-clause-on g c = let r = c.requires in let begun = put_begins _ _ _ _ _ _ _ r.machine _ _ _ _ _ c.first_put.ensures r.call r.shape r.sits r.rest r.width r.room in (c.args.seat.now, c.put_while-state.ensures.on _ begun)
 
-pub loop-next-preserved : goal.loop-next-preserved
-loop-next-preserved g c = let o = c.operate-found.ensures in
-    put_goes_on _ _ _ _ _ _ _ c.requires.machine _ _ _ _ _ _ c.loop-next.invariant _ _ _ _ refl c.want-op.ensures.op o.log o.told o.value _ (sym c.after.ensures ∙ c.in-Next.is)
+pub put_while-state-requires-3-clause-on : goal.put_while-state-requires-3-clause-on
+put_while-state-requires-3-clause-on g c = let r = c.requires in let begun = put_begins _ _ _ _ _ _ _ r.machine _ _ _ _ _ c.first_put.ensures r.call r.shape r.sits r.rest r.width r.room in (c.args.seat.now, c.put_while-state-2.ensures.on _ (c.put_while-state.ensures.on _ begun))
 
-pub returns-in-Done-Put-clause-view : goal.returns-in-Done-Put-clause-view
-returns-in-Done-Put-clause-view g c = let o = c.operate-found.ensures in
-    put_leaves _ _ _ _ _ _ _ c.requires.machine _ _ _ _ _ _ c.loop-next.invariant _ _ _ _ refl c.want-op.ensures.op o.log o.told o.value _ (sym c.after.ensures ∙ (c.in-Done-Put.is ∙ ap Done c.in-Done-Put.field-0-is))
+pub put_while-state-requires-4-clause-on : goal.put_while-state-requires-4-clause-on
+put_while-state-requires-4-clause-on g c = let r = c.requires in let begun = put_begins _ _ _ _ _ _ _ r.machine _ _ _ _ _ c.first_put.ensures r.call r.shape r.sits r.rest r.width r.room in (c.args.seat.now, c.put_while-state-3.ensures.on _ (c.put_while-state-2.ensures.on _ (c.put_while-state.ensures.on _ begun)))
 
-pub returns-in-Done-Put-clause-steps : goal.returns-in-Done-Put-clause-steps
-returns-in-Done-Put-clause-steps g c = let o = c.operate-found.ensures in
-    ends _ _ _ _ _ _ _ c.requires.machine _ _ _ _ _ _ _ c.loop-next.invariant.at _ _ _ _ refl c.want-op.ensures.op o.log o.told o.value _ (sym c.after.ensures ∙ (c.in-Done-Put.is ∙ ap Done c.in-Done-Put.field-0-is))
+pub loop-state-init : goal.loop-state-init
+loop-state-init g c = let r = c.requires in let begun = put_begins _ _ _ _ _ _ _ r.machine _ _ _ _ _ c.first_put.ensures r.call r.shape r.sits r.rest r.width r.room in c.put_while-state-4.ensures.on _ (c.put_while-state-3.ensures.on _ (c.put_while-state-2.ensures.on _ (c.put_while-state.ensures.on _ begun)))
 
-pub returns-in-Done-Put-clause-shape : goal.returns-in-Done-Put-clause-shape
-returns-in-Done-Put-clause-shape g c = let o = c.operate-found.ensures in
-    grid_next _ _ _ _ _ _ _ c.requires.machine _ _ _ _ _ _ _ c.loop-next.invariant.at _ _ _ _ refl c.want-op.ensures.op o.log o.told o.value
-
-pub returns-in-Done-Put-clause-sits : goal.returns-in-Done-Put-clause-sits
-returns-in-Done-Put-clause-sits g c = let o = c.operate-found.ensures in
-    sits_next _ _ _ _ _ _ _ c.requires.machine _ _ _ _ _ _ _ c.loop-next.invariant.at _ _ _ _ refl c.want-op.ensures.op o.log o.told o.value
+pub put_step-state-requires-clause-at : goal.put_step-state-requires-clause-at
+put_step-state-requires-clause-at g c = (_, put_at _ _ _ _ _ _ _ _ _ _ _ _ _ c.in-Next.is c.loop-state.invariant)

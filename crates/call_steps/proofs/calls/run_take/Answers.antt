@@ -1,36 +1,26 @@
-use Rattle.std.proofs.Common.{sym, refl, ap, ◌∙◌}
-use Rattle.bbq_core.specs.declared.op.After.TheVariants.{Done}
-use Rattle.call_steps.proofs.Loop.{ends, falls_on, grid_next, take_begins, take_goes_on, take_leaves, take_wants, sits_next}
+use Rattle.call_steps.proofs.Loop.{take_at, take_begins}
 use Rattle.call_steps.proofs.calls.run_take.Goals as goal
 
-pub loop-next-init : goal.loop-next-init
-loop-next-init g c = let r = c.requires in take_begins _ _ _ _ _ _ _ c.requires.machine _ _ _ _ _ c.first_take-phase.ensures r.call r.shape r.sits r.rest r.width
+pub take_while-state-requires-clause-on : goal.take_while-state-requires-clause-on
+take_while-state-requires-clause-on g c = let r = c.requires in let begun = take_begins _ _ _ _ _ _ _ r.machine _ _ _ _ _ c.first_take.ensures r.call r.shape r.sits r.rest r.width in (c.args.seat.now, c.args.out.now, begun)
 
-pub loop-next-smaller : goal.loop-next-smaller
-loop-next-smaller g c = falls_on c.args.shape.now _ _ _ (sym c.after.ensures ∙ c.in-Next.is) c.loop-next.invariant.at.in_range
+pub take_while-state-requires-2-clause-on : goal.take_while-state-requires-2-clause-on
+take_while-state-requires-2-clause-on g c = let r = c.requires in let begun = take_begins _ _ _ _ _ _ _ r.machine _ _ _ _ _ c.first_take.ensures r.call r.shape r.sits r.rest r.width in (c.args.seat.now, c.args.out.now, c.take_while-state.ensures.on _ _ begun)
 
-pub loop-next-preserved : goal.loop-next-preserved
-loop-next-preserved g c = let o = c.operate-found.ensures in
-    take_goes_on _ _ _ _ _ _ _ c.requires.machine _ _ _ _ _ _ _ c.loop-next.invariant _ _ _ _ _ refl c.want-op.ensures.op o.log o.told o.value c.keep_read.ensures _ (sym c.after.ensures ∙ c.in-Next.is)
+pub take_while-state-requires-3-clause-on : goal.take_while-state-requires-3-clause-on
+take_while-state-requires-3-clause-on g c = let r = c.requires in let begun = take_begins _ _ _ _ _ _ _ r.machine _ _ _ _ _ c.first_take.ensures r.call r.shape r.sits r.rest r.width in (c.args.seat.now, c.args.out.now, c.take_while-state-2.ensures.on _ _ (c.take_while-state.ensures.on _ _ begun))
 
-pub returns-in-Done-Take-clause-view : goal.returns-in-Done-Take-clause-view
-returns-in-Done-Take-clause-view g c = let o = c.operate-found.ensures in
-    take_leaves _ _ _ _ _ _ _ c.requires.machine _ _ _ _ _ _ _ c.loop-next.invariant _ _ _ _ _ refl c.want-op.ensures.op o.log o.told o.value c.keep_read.ensures _ (sym c.after.ensures ∙ (c.in-Done-Take.is ∙ ap Done c.in-Done-Take.field-0-is))
+pub take_while-state-requires-4-clause-on : goal.take_while-state-requires-4-clause-on
+take_while-state-requires-4-clause-on g c = let r = c.requires in let begun = take_begins _ _ _ _ _ _ _ r.machine _ _ _ _ _ c.first_take.ensures r.call r.shape r.sits r.rest r.width in (c.args.seat.now, c.args.out.now, c.take_while-state-3.ensures.on _ _ (c.take_while-state-2.ensures.on _ _ (c.take_while-state.ensures.on _ _ begun)))
 
-pub returns-in-Done-Take-clause-steps : goal.returns-in-Done-Take-clause-steps
-returns-in-Done-Take-clause-steps g c =
-    let o = c.operate-found.ensures in
-    let i = c.loop-next.invariant in
-    ends _ _ _ _ _ _ _ c.requires.machine _ _ _ _ _ _ _ i.at _ _ _ _ refl (c.want-op.ensures.op ∙ take_wants _ _ _ _ _ _ _ c.requires.machine _ _ _ _ _ _ _ i) o.log o.told o.value _ (sym c.after.ensures ∙ (c.in-Done-Take.is ∙ ap Done c.in-Done-Take.field-0-is))
+pub take_while-state-requires-5-clause-on : goal.take_while-state-requires-5-clause-on
+take_while-state-requires-5-clause-on g c = let r = c.requires in let begun = take_begins _ _ _ _ _ _ _ r.machine _ _ _ _ _ c.first_take.ensures r.call r.shape r.sits r.rest r.width in (c.args.seat.now, c.args.out.now, c.take_while-state-4.ensures.on _ _ (c.take_while-state-3.ensures.on _ _ (c.take_while-state-2.ensures.on _ _ (c.take_while-state.ensures.on _ _ begun))))
 
-pub returns-in-Done-Take-clause-shape : goal.returns-in-Done-Take-clause-shape
-returns-in-Done-Take-clause-shape g c =
-    let o = c.operate-found.ensures in
-    let i = c.loop-next.invariant in
-    grid_next _ _ _ _ _ _ _ c.requires.machine _ _ _ _ _ _ _ i.at _ _ _ _ refl (c.want-op.ensures.op ∙ take_wants _ _ _ _ _ _ _ c.requires.machine _ _ _ _ _ _ _ i) o.log o.told o.value
+pub take_while-state-requires-6-clause-on : goal.take_while-state-requires-6-clause-on
+take_while-state-requires-6-clause-on g c = let r = c.requires in let begun = take_begins _ _ _ _ _ _ _ r.machine _ _ _ _ _ c.first_take.ensures r.call r.shape r.sits r.rest r.width in (c.args.seat.now, c.args.out.now, c.take_while-state-5.ensures.on _ _ (c.take_while-state-4.ensures.on _ _ (c.take_while-state-3.ensures.on _ _ (c.take_while-state-2.ensures.on _ _ (c.take_while-state.ensures.on _ _ begun)))))
 
-pub returns-in-Done-Take-clause-sits : goal.returns-in-Done-Take-clause-sits
-returns-in-Done-Take-clause-sits g c =
-    let o = c.operate-found.ensures in
-    let i = c.loop-next.invariant in
-    sits_next _ _ _ _ _ _ _ c.requires.machine _ _ _ _ _ _ _ i.at _ _ _ _ refl (c.want-op.ensures.op ∙ take_wants _ _ _ _ _ _ _ c.requires.machine _ _ _ _ _ _ _ i) o.log o.told o.value
+pub loop-state-init : goal.loop-state-init
+loop-state-init g c = let r = c.requires in let begun = take_begins _ _ _ _ _ _ _ r.machine _ _ _ _ _ c.first_take.ensures r.call r.shape r.sits r.rest r.width in c.take_while-state-6.ensures.on _ _ (c.take_while-state-5.ensures.on _ _ (c.take_while-state-4.ensures.on _ _ (c.take_while-state-3.ensures.on _ _ (c.take_while-state-2.ensures.on _ _ (c.take_while-state.ensures.on _ _ begun)))))
+
+pub take_step-state-requires-clause-at : goal.take_step-state-requires-clause-at
+take_step-state-requires-clause-at g c = (_, _, take_at _ _ _ _ _ _ _ _ _ _ _ _ _ _ c.in-Next.is c.loop-state.invariant)

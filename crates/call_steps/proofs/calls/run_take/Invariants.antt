@@ -1,9 +1,8 @@
-use Rattle.bbq_core.specs.PutSteps.{rank}
-use Rattle.call_steps.proofs.Loop.{IsTakeAt}
+use Rattle.call_steps.specs.Midway.{IsTakeOn, steps_left}
 use Rattle.call_steps.proofs.calls.run_take.Given as goal
 
-abbrev pub invariant-loop-next : goal.invariant-loop-next
-invariant-loop-next g l = let m = g.U.MachineRule in IsTakeAt m.grid_of m.view_of m.Sits m.begins m.moves_to m.Tells l.shape g.E.Call.start l.initial.seat l.seat l.initial.out l.out l.phase
+abbrev pub invariant-loop-state : goal.invariant-loop-state
+invariant-loop-state g l = let m = g.U.MachineRule in IsTakeOn m.grid_of m.view_of m.Sits m.begins m.moves_to m.Tells l.shape g.E.Call.start l.fn.seat l.seat l.fn.out l.out l.state
 
-abbrev pub decreases-loop-next : goal.decreases-loop-next
-decreases-loop-next g l = rank l.shape l.phase
+abbrev pub decreases-loop-state : goal.decreases-loop-state
+decreases-loop-state g l = steps_left l.shape l.state

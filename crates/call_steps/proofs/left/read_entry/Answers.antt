@@ -1,4 +1,4 @@
-use Rattle.std.proofs.Common.{◌∙◌, ap, arith, ◌≡◌, ℕ, subst, sym}
+use Rattle.std.proofs.Common.{◌∙◌, arith, ◌≡◌, ℕ, subst}
 use Rattle.std.proofs.lemmas.List.{length-set}
 use mathlib.Core.Option.{some}
 use lib.ListN.{get_elem?}

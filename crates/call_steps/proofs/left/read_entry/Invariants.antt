@@ -1,4 +1,4 @@
-use Rattle.std.specs.Prelude.{◌≡◌, ℕ, ◌+◌, ◌%◌, length, map, slice_index, take}
+use Rattle.std.specs.Prelude.{◌≡◌, ℕ, ◌%◌, length, map, slice_index, take}
 use Rattle.std.specs.List.{range_with_len}
 use Rattle.cursor_word.specs.Layout.{entry_index}
 use Rattle.call_steps.proofs.left.read_entry.Given as goal

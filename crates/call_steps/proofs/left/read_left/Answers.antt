@@ -1,4 +1,4 @@
-use Rattle.std.proofs.Common.{◌∙◌, ap, sym, arith}
+use Rattle.std.proofs.Common.{◌∙◌, ap, arith}
 use Rattle.rail.specs.Items.{placed}
 use Rattle.call_steps.proofs.LeftItems.{left_more}
 use Rattle.call_steps.proofs.left.read_left.Goals as goal

@@ -1,4 +1,4 @@
-use Rattle.std.specs.Prelude.{◌≡◌, ℕ, ◌+◌, ◌-◌, ◌≤◌, ◌++◌}
+use Rattle.std.specs.Prelude.{◌≡◌, ◌+◌, ◌≤◌, ◌++◌}
 use Rattle.bbq_core.specs.Gathered.{left_in}
 use Rattle.call_steps.proofs.left.read_left.Given as goal
 

@@ -1,5 +1,5 @@
 use Rattle.std.proofs.Common.{◌∙◌, ap, sym}
-use Rattle.solo_rail.specs.Solo.{Queue}
+use Rattle.call_steps.specs.Queue.{Queue}
 use Rattle.solo_rail.proofs.Finish.{one_of_all, only_own}
 use Rattle.solo_rail.proofs.solo_retry.SoloRetryRail.close.Goals as goal
 

@@ -1,5 +1,6 @@
 use Rattle.std.proofs.Common.{ap, sym, ◌∙◌, arith}
-use Rattle.solo_rail.specs.Solo.{Queue, Seated}
+use Rattle.call_steps.specs.Queue.{Queue}
+use Rattle.solo_rail.specs.Solo.{Seated}
 use Rattle.solo_rail.proofs.Answered.{take_seen}
 use Rattle.solo_rail.proofs.Kept.{machines}
 use Rattle.solo_rail.proofs.solo_retry.SoloRetryRail.take.Goals as goal

@@ -1,0 +1,10 @@
+use Rattle.std.proofs.Common.{sym, refl}
+use Rattle.call_steps.proofs.Loop.{left_falls, put_on}
+use Rattle.call_steps.proofs.calls.put_step.Goals as goal
+
+pub returns-clause-on : goal.returns-clause-on
+returns-clause-on g c = λ old i. let o = c.operate-found.ensures in
+    put_on _ _ _ _ _ _ _ c.requires.machine _ _ _ _ _ _ i _ _ _ _ refl c.want-op.ensures.op o.log o.told o.value _ (sym c.after.ensures)
+
+pub returns-clause-falls : goal.returns-clause-falls
+returns-clause-falls g c = left_falls c.args.shape.now _ _ _ (sym c.after.ensures) c.requires.at.1.at.in_range
