@@ -1,11 +1,10 @@
 -- What clauses see of the queue and of its seats.
 use Rattle.std.specs.Prelude.{◌≡◌, ℕ, ◌<◌, List, ◌++◌, All, IsPermutation, get_or, length, map}
-use Rattle.cursor_word.specs.Shape.{Grid}
 use Rattle.rail.specs.declared.answer.Put.{Put}
 use Rattle.rail.specs.declared.answer.Put.TheVariants as put
 use Rattle.rail.specs.declared.answer.Take.{Take}
 use Rattle.rail.specs.declared.answer.Take.TheVariants as take
-use Rattle.step_log.specs.Log.{TableId, Sitting}
+use Rattle.step_log.specs.Log.{Sitting}
 use Rattle.step_log.specs.declared.step.Taken.{Taken}
 use Rattle.bbq_core.specs.declared.view.View.{View}
 use Rattle.bbq_core.specs.Machine.{AllRest, resting}

@@ -7,7 +7,6 @@ use Rattle.rail.specs.declared.answer.Put.{Put}
 use Rattle.rail.specs.declared.answer.Put.TheVariants as put
 use Rattle.rail.specs.declared.answer.Take.{Take}
 use Rattle.rail.specs.declared.answer.Take.TheVariants as take
-use Rattle.step_log.specs.Log.{TableId}
 use Rattle.step_log.specs.declared.step.Taken.{Taken}
 use Rattle.bbq_core.specs.declared.view.View.{View}
 use Rattle.call_steps.specs.Queue.{Queue}

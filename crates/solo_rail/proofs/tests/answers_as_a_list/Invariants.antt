@@ -1,4 +1,4 @@
-use Rattle.std.proofs.Common.{◌≡◌, ◌≤◌, length}
+use Rattle.std.proofs.Common.{◌≤◌, length}
 use Rattle.rail.specs.ListRail.{IsSeatOf}
 use Rattle.solo_rail.specs.Solo.{IsSeatOf as IsSoloSeatOf}
 use Rattle.solo_rail.proofs.tests.answers_as_a_list.Given as goal
