@@ -1,36 +1,51 @@
-//! Puts and takes entries of six words through the queues, beside the kit's own queue. The argument `time` prints what it cost.
+//! Passes entries of six words through the queues, beside the kit's own queue: a put and a take by one thread, one producer and one taker, and four
+//! producers and one taker. The argument `time` prints what it cost.
 #![tactic(auto)]
 
 mod kit;
 mod pairs;
+mod passes;
 mod report;
 mod rounds;
 
-use anyhow::anyhow;
-use cursor_word::Shape;
-use report::print_times;
-use rounds::best_of;
+use report::print_costs;
+use rounds::{Work, pair_costs, pass_costs};
 use std::env;
 
-/// How many entries pass in a run that is not timed, and in one that is.
-const FEW: u64 = 1000;
+/// How much is done in a run that is not timed, and in one that is. Rounds of one thread are short, so that some of them are not broken off by other work.
+const FEW: Work = Work {
+    blocks: 8,
+    pair_rounds: 5,
+    pairs: 1000,
+    pass_rounds: 2,
+    each: 1000,
+};
 
-const MANY: u64 = 1_000_000;
-
-/// Blocks of 64 entries, unless a second argument says otherwise.
-const BLOCKS: u64 = 8;
+const MANY: Work = Work {
+    blocks: 8,
+    pair_rounds: 200,
+    pairs: 20_000,
+    pass_rounds: 40,
+    each: 20_000,
+};
 
 fn main(rt: HostRuntime) -> Result<(), anyhow::Error> {
     let mut args = env::args(&rt)?;
     let _program = args.next();
     let is_timed = args.next().is_some_and(|word| word.as_str() == "time");
-    let times = if is_timed { MANY } else { FEW };
-    let blocks = args.next().and_then(|word| word.as_str().parse().ok());
-    let shape = Shape::new(blocks.unwrap_or(BLOCKS), 64, 6, 1).map_err(|_| anyhow!("no shape"))?;
-    let (kept, costs) = best_of(&rt, rt.alloc(), shape, times)?;
-    println!(rt; "kept {kept}")?;
+    let mut work = if is_timed { MANY } else { FEW };
+    if let Some(blocks) = args.next().and_then(|word| word.as_str().parse().ok()) {
+        work.blocks = blocks;
+    }
+    let alloc = rt.alloc();
+    let pair = pair_costs(&rt, alloc, &work)?;
+    let one = pass_costs(&rt, alloc, &work, 1)?;
+    let four = pass_costs(&rt, alloc, &work, 4)?;
+    println!(rt; "kept {} {} {}", pair.kept, one.kept, four.kept)?;
     if is_timed {
-        print_times(&rt, &costs, times)?;
+        print_costs(&rt, "a put and a take", &pair, work.pairs)?;
+        print_costs(&rt, "one producer", &one, work.each)?;
+        print_costs(&rt, "four producers", &four, work.each.saturating_mul(4))?;
     }
     Ok(())
 }

@@ -1,100 +1,165 @@
 //! Rounds of all queues one after the other.
-ghost use Rattle.std.specs.Prelude.{◌≡◌, ◌≤◌};
+ghost use Rattle.std.specs.Prelude.{◌≡◌, ◌≤◌, IfOk};
 
-use crate::kit::kit_pairs;
+use crate::kit::{kit_pairs, kit_pass};
 use crate::pairs::pairs;
+use crate::passes::pass;
+use anyhow::anyhow;
 use crossbeam_queue::ArrayQueue;
 use cursor_word::Shape;
 use retry_rail::RetryRail;
 use solo_rail::SoloRetry;
 use std::alloc::Global;
 use std::sync::Wait;
+use std::thread::Threads;
 use std::time::{Clock, Instant};
 
-const ROUNDS: u64 = 5;
+/// How often, and how many entries in a round: puts and takes by one thread, and entries of each producer.
+#[derive(Clone, Copy)]
+pub struct Work {
+    pub blocks: u64,
+    pub pair_rounds: u64,
+    pub pairs: u64,
+    pub pass_rounds: u64,
+    pub each: u64,
+    ghost few: { (pairs ≤ 1000000) × (each ≤ 1000000) },
+}
 
-/// The least nanoseconds of a round.
+/// The least nanoseconds of a round of each queue, and how many entries came whole in all rounds.
 #[derive(Clone, Copy)]
 pub struct Costs {
     pub kit: u128,
     pub solo: u128,
     pub retry: u128,
+    pub kept: u64,
 }
 
-/// How many entries came back in all, and the least that a round of each queue cost.
-pub fn best_of<R: Clock + Wait>(
-    rt: &R,
-    alloc: Global,
-    shape: Shape,
-    times: u64,
-) -> Result<(u64, Costs), anyhow::Error>
-    requires shape { (shape.width ≡ 6) × (shape.seats ≡ 1) }
-    requires times { times ≤ 1000000 }
-{
-    let mut least = Costs {
-        kit: u128::MAX,
-        solo: u128::MAX,
-        retry: u128::MAX,
-    };
-    let mut kept = 0u64;
-    for _ in 0..ROUNDS {
-        let (count, kit) = kit_round(rt, alloc, times)?;
-        let (solo_count, solo) = solo_round(rt, alloc, shape, times)?;
-        let (retry_count, retry) = retry_round(rt, alloc, shape, times)?;
-        kept = kept
-            .wrapping_add(count)
-            .wrapping_add(solo_count)
-            .wrapping_add(retry_count);
-        least = Costs {
-            kit: least.kit.min(kit),
-            solo: least.solo.min(solo),
-            retry: least.retry.min(retry),
-        };
+impl Costs {
+    fn none() -> Costs {
+        Costs {
+            kit: u128::MAX,
+            solo: u128::MAX,
+            retry: u128::MAX,
+            kept: 0,
+        }
     }
-    Ok((kept, least))
+
+    fn add(&mut self, kept: u64) {
+        self.kept = self.kept.wrapping_add(kept);
+    }
 }
 
-fn kit_round<R: Clock + Wait>(
+fn shape_of(blocks: u64, seats: u64) -> Result<Shape, anyhow::Error>
+    ensures { IfOk result (λ shape. (shape.width ≡ 6) × (shape.seats ≡ seats)) }
+{
+    Shape::new(blocks, 64, 6, seats).map_err(|_| anyhow!("no shape"))
+}
+
+/// Puts and takes by one thread.
+pub fn pair_costs<R: Clock + Wait>(
     rt: &R,
     alloc: Global,
-    times: u64,
+    work: &Work,
+) -> Result<Costs, anyhow::Error> {
+    let mut least = Costs::none();
+    for _ in 0..work.pair_rounds {
+        let (kept, cost) = kit_pair_round(rt, alloc, work)?;
+        least.add(kept);
+        least.kit = least.kit.min(cost);
+        let (kept, cost) = solo_pair_round(rt, alloc, work)?;
+        least.add(kept);
+        least.solo = least.solo.min(cost);
+        let (kept, cost) = retry_pair_round(rt, alloc, work)?;
+        least.add(kept);
+        least.retry = least.retry.min(cost);
+    }
+    Ok(least)
+}
+
+fn kit_pair_round<R: Clock + Wait>(
+    rt: &R,
+    alloc: Global,
+    work: &Work,
 ) -> Result<(u64, u128), anyhow::Error> {
     let queue = ArrayQueue::new(alloc, 512)?;
     let start = Instant::now(rt)?;
-    let kept = kit_pairs(rt, &queue, times);
+    let kept = kit_pairs(rt, &queue, work.pairs);
     Ok((kept, start.elapsed(rt)?.as_nanos()))
 }
 
-fn solo_round<R: Clock>(
+fn solo_pair_round<R: Clock>(
     rt: &R,
     alloc: Global,
-    shape: Shape,
-    times: u64,
-) -> Result<(u64, u128), anyhow::Error>
-    requires shape { (shape.width ≡ 6) × (shape.seats ≡ 1) }
-    requires times { times ≤ 1000000 }
-{
+    work: &Work,
+) -> Result<(u64, u128), anyhow::Error> {
+    let shape = shape_of(work.blocks, 1)?;
     let (rail, mut seat) = SoloRetry::make(alloc, shape)?;
     let start = Instant::now(rt)?;
-    let kept = pairs(&rail, &mut seat, times);
+    let kept = pairs(&rail, &mut seat, work.pairs);
     Ok((kept, start.elapsed(rt)?.as_nanos()))
 }
 
-fn retry_round<R: Clock>(
+fn retry_pair_round<R: Clock>(
     rt: &R,
     alloc: Global,
-    shape: Shape,
-    times: u64,
-) -> Result<(u64, u128), anyhow::Error>
-    requires shape { (shape.width ≡ 6) × (shape.seats ≡ 1) }
-    requires times { times ≤ 1000000 }
-{
-    let (rail, seats) = RetryRail::make(alloc, shape)?;
-    let mut seats = seats;
+    work: &Work,
+) -> Result<(u64, u128), anyhow::Error> {
+    let shape = shape_of(work.blocks, 1)?;
+    let (rail, mut seats) = RetryRail::make(alloc, shape)?;
     let Some(mut seat) = seats.pop() else {
         return Ok((0, 0));
     };
     let start = Instant::now(rt)?;
-    let kept = pairs(&rail, &mut seat, times);
+    let kept = pairs(&rail, &mut seat, work.pairs);
+    Ok((kept, start.elapsed(rt)?.as_nanos()))
+}
+
+/// Entries from so many producers to one taker.
+pub fn pass_costs<R: Clock + Threads + Wait + Sync>(
+    rt: &R,
+    alloc: Global,
+    work: &Work,
+    producers: u64,
+) -> Result<Costs, anyhow::Error>
+    requires { producers ≤ 255 }
+{
+    let mut least = Costs::none();
+    for _ in 0..work.pass_rounds {
+        let (kept, cost) = kit_pass_round(rt, alloc, work, producers)?;
+        least.add(kept);
+        least.kit = least.kit.min(cost);
+        let (kept, cost) = retry_pass_round(rt, alloc, work, producers)?;
+        least.add(kept);
+        least.retry = least.retry.min(cost);
+    }
+    Ok(least)
+}
+
+fn kit_pass_round<R: Clock + Threads + Wait + Sync>(
+    rt: &R,
+    alloc: Global,
+    work: &Work,
+    producers: u64,
+) -> Result<(u64, u128), anyhow::Error>
+    requires { producers ≤ 255 }
+{
+    let queue = ArrayQueue::new(alloc, 512)?;
+    let start = Instant::now(rt)?;
+    let kept = kit_pass(rt, &queue, producers, work.each);
+    Ok((kept, start.elapsed(rt)?.as_nanos()))
+}
+
+fn retry_pass_round<R: Clock + Threads + Wait + Sync>(
+    rt: &R,
+    alloc: Global,
+    work: &Work,
+    producers: u64,
+) -> Result<(u64, u128), anyhow::Error>
+    requires { producers ≤ 255 }
+{
+    let shape = shape_of(work.blocks, producers + 1)?;
+    let (rail, mut seats) = RetryRail::make(alloc, shape)?;
+    let start = Instant::now(rt)?;
+    let kept = pass(rt, &rail, seats.as_mut_slice(), work.each);
     Ok((kept, start.elapsed(rt)?.as_nanos()))
 }

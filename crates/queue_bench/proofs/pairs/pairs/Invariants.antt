@@ -1,5 +1,4 @@
-use Rattle.std.proofs.Common.{◌≡◌, ◌+◌, ◌≤◌, length}
-use Rattle.rail.specs.Rail.{most_puts}
+use Rattle.std.proofs.Common.{◌+◌, ◌≤◌, length}
 use Rattle.queue_bench.proofs.pairs.pairs.Given as goal
 
 abbrev pub invariant-loop-turn : goal.invariant-loop-turn

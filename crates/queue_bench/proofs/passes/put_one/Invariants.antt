@@ -1,0 +1,6 @@
+use Rattle.std.proofs.Common.{◌≡◌}
+use Rattle.retry_rail.specs.Retry.{IsSeatOf}
+use Rattle.queue_bench.proofs.passes.put_one.Given as goal
+
+abbrev pub invariant-loop : goal.invariant-loop
+invariant-loop g l = IsSeatOf l.queue l.seat × (l.seat.view.made ≡ l.initial.seat.view.made)

@@ -1,0 +1,5 @@
+use Rattle.retry_rail.specs.Retry.{IsSeatOf}
+use Rattle.queue_bench.proofs.passes.take_one.Given as goal
+
+abbrev pub invariant-loop : goal.invariant-loop
+invariant-loop g l = IsSeatOf l.queue l.seat
