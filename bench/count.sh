@@ -1,6 +1,6 @@
 #!/usr/bin/env bash
-# Times the word count against wc -w and a pipeline of tr, sort and uniq on two texts, three runs each,
-# and prints the ratios of the least times. What the spans cost is the ratio to a run over the same text in few pieces.
+# Times the word count against wc -w and a pipeline of tr, sort and uniq on two texts, and prints the ratios of the
+# least times: of three runs each, and of twenty of the program on the first text. What the spans cost is the ratio to a run over the same text in few pieces.
 set -eu
 top=$(cd "$(dirname "$0")/.." && pwd)
 folder=$(mktemp -d)
@@ -16,10 +16,11 @@ awk 'BEGIN { srand(1); l = "abcdefghijklmnop"
 
 pipeline() { LC_ALL=C tr -s '[:space:]' '\n' <"$1" | LC_ALL=C sort | uniq -c; }
 
-# the least of three times, in milliseconds
+# the least of so many times, in milliseconds
 least() {
-    local best=
-    for _ in 1 2 3; do
+    local best= runs=$1
+    shift
+    for _ in $(seq "$runs"); do
         local from to
         from=$(date +%s%N)
         "$@" >/dev/null
@@ -32,10 +33,11 @@ least() {
 
 "$top/bbq-profile" few.txt >/dev/null # builds it, if need be
 for text in few.txt many.txt; do
-    ours=$(least "$top/crates/profile_cli/out/profile_cli" "$text")
-    wc=$(least wc -w "$text")
-    pipe=$(least pipeline "$text")
-    few=$(least "$top/crates/profile_cli/out/profile_cli" --workers 1 --piece 16777216 "$text")
+    runs=$([ "$text" = few.txt ] && echo 20 || echo 3)
+    ours=$(least "$runs" "$top/crates/profile_cli/out/profile_cli" "$text")
+    wc=$(least 3 wc -w "$text")
+    pipe=$(least 3 pipeline "$text")
+    few=$(least "$runs" "$top/crates/profile_cli/out/profile_cli" --workers 1 --piece 16777216 "$text")
     awk -v t="$text" -v o="$ours" -v w="$wc" -v p="$pipe" -v f="$few" 'BEGIN {
         printf "%s: bbq-profile %d ms, in few pieces %d ms, wc -w %d ms, pipeline %d ms; to few pieces %.3f, to wc -w %.2f, pipeline to bbq-profile %.1f\n", t, o, f, w, p, o / f, o / w, p / o }'
 done
