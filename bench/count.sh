@@ -34,10 +34,10 @@ least() {
 "$top/bbq-profile" few.txt >/dev/null # builds it, if need be
 for text in few.txt many.txt; do
     runs=$([ "$text" = few.txt ] && echo 20 || echo 3)
-    ours=$(least "$runs" "$top/crates/profile_cli/out/profile_cli" "$text")
+    ours=$(least "$runs" "$top/crates/bbq_profile/out/bbq_profile" "$text")
     wc=$(least 3 wc -w "$text")
     pipe=$(least 3 pipeline "$text")
-    few=$(least "$runs" "$top/crates/profile_cli/out/profile_cli" --workers 1 --piece 16777216 "$text")
+    few=$(least "$runs" "$top/crates/bbq_profile/out/bbq_profile" --workers 1 --piece 16777216 "$text")
     awk -v t="$text" -v o="$ours" -v w="$wc" -v p="$pipe" -v f="$few" 'BEGIN {
         printf "%s: bbq-profile %d ms, in few pieces %d ms, wc -w %d ms, pipeline %d ms; to few pieces %.3f, to wc -w %.2f, pipeline to bbq-profile %.1f\n", t, o, f, w, p, o / f, o / w, p / o }'
 done

@@ -11,8 +11,6 @@ mod schedule;
 mod seat;
 mod state;
 mod take_phase;
-#[cfg(test)]
-mod tests;
 mod view;
 
 pub use causes::law_causes;

@@ -4,8 +4,6 @@
 mod claim;
 mod rule;
 mod share;
-#[cfg(test)]
-mod tests;
 
 pub use claim::{Claim, ClaimSeat};
 pub use share::Plan;

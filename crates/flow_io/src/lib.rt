@@ -7,8 +7,6 @@ mod memory;
 mod plan;
 mod real;
 mod store;
-#[cfg(test)]
-mod tests;
 mod writing;
 
 pub use clock::{MemClock, MemHand, RealClock, RealHand};

@@ -32,6 +32,3 @@ fn copied(alloc: Global, batches: &[Batch]) -> Result<Vec<Placed>, AllocError>
     }
     Ok(items)
 }
-
-#[cfg(test)]
-mod tests;

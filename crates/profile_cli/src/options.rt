@@ -3,9 +3,6 @@ ghost use Rattle.std.specs.Option.{option_copied};
 ghost use Rattle.profile_cli.specs.Texts.{bytes_of};
 ghost use Rattle.profile_cli.specs.Usage.{begins_with_dash, nothing_given, with_option, with_files, read_words, number_within, number_or, asked_by, usage, refusal_number, refusal_word, given_of, asked_of, IsWithinLimits};
 
-#[cfg(test)]
-mod tests;
-
 /// How the words of the command are refused.
 #[derive(Clone, Copy, Debug, PartialEq, Eq)]
 pub enum Refusal {

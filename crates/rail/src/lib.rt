@@ -14,6 +14,3 @@ pub use entry::{Entry, Placed};
 pub use list_rail::{ListDone, ListRail, ListSeat};
 pub use passage::{Passed, pass_all, put_all, put_kept, take_all, take_kept};
 pub use rail::{Rail, Refused};
-
-#[cfg(test)]
-mod tests;

@@ -5,8 +5,6 @@ mod holding;
 mod retry;
 mod rule;
 mod seats;
-#[cfg(test)]
-mod tests;
 
 pub use holding::Holding;
 pub use retry::{RetryDone, RetryRail};

@@ -8,6 +8,3 @@ mod solo_retry;
 pub use holding::Holding;
 pub use rule::Alone;
 pub use solo_retry::{SoloRetry, SoloRetryDone, SoloRetrySeat};
-
-#[cfg(test)]
-mod tests;

@@ -73,6 +73,3 @@ fn collect_one<R: Rail>(rail: &R, seat: &mut R::Seat, batch: &mut Batch) -> Resu
     }
     Ok(answer)
 }
-
-#[cfg(test)]
-mod tests;

@@ -3,8 +3,6 @@
 
 mod laws;
 mod span;
-#[cfg(test)]
-mod tests;
 
 pub use laws::spellings_differ;
 pub use span::{SPAN_WORDS, SpanEvent, SpanKind, WordsError, decode, encode};

@@ -5,8 +5,6 @@
 
 mod rule;
 mod step;
-#[cfg(test)]
-mod tests;
 mod words;
 
 pub use rule::{StepRule, Told};

@@ -3,8 +3,6 @@
 
 mod event;
 mod laws;
-#[cfg(test)]
-mod tests;
 mod trace;
 
 pub use event::event_text;

@@ -8,8 +8,6 @@ mod counts;
 mod laws;
 mod plan;
 mod scan;
-#[cfg(test)]
-mod tests;
 mod text;
 mod writing;
 

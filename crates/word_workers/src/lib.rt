@@ -5,8 +5,6 @@ mod all;
 mod drawn;
 mod gate;
 mod numbers;
-#[cfg(test)]
-mod tests;
 mod worker;
 
 pub use all::{Work, run_all};

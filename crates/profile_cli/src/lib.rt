@@ -1,0 +1,20 @@
+//! The command: words are counted by workers that note their spans in a queue, and a trace of it is stored.
+#![tactic(auto)]
+
+mod command;
+mod finish;
+mod messages;
+mod options;
+mod plans;
+mod profiling;
+mod rails;
+mod reading;
+mod run;
+mod solo_rails;
+mod texts;
+mod writing;
+
+pub use options::{Options, Refusal, read_options};
+pub use profiling::profile;
+pub use rails::{Closed, Rails, Report};
+pub use solo_rails::SoloRails;

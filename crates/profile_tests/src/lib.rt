@@ -1,0 +1,17 @@
+//! Worked examples of the profiler and of what it stands on, as tests of what no clause says.
+#![tactic(auto)]
+
+#[cfg(test)]
+mod command;
+#[cfg(test)]
+mod options;
+#[cfg(test)]
+mod outside;
+#[cfg(test)]
+mod recorder;
+#[cfg(test)]
+mod spellings;
+#[cfg(test)]
+mod texts;
+#[cfg(test)]
+mod traces;

@@ -1,0 +1,5 @@
+use Rattle.retry_rail.proofs.Gathered.{same_numbers}
+use Rattle.queue_tests.proofs.many_threads.run_all.Goals as goal
+
+pub returns-clause-numbers : goal.returns-clause-numbers
+returns-clause-numbers g c = same_numbers _ _ c.run_each.ensures.long c.run_each.ensures.numbers

@@ -1,0 +1,23 @@
+//! Worked examples of the queues and of what they stand on, as tests of what no clause says.
+#![tactic(auto)]
+
+#[cfg(test)]
+mod calls;
+#[cfg(test)]
+mod claims;
+#[cfg(test)]
+mod cursors;
+#[cfg(test)]
+mod gathering;
+#[cfg(test)]
+mod list_queue;
+#[cfg(test)]
+mod logged_steps;
+#[cfg(test)]
+mod many_threads;
+#[cfg(test)]
+mod one_seat;
+#[cfg(test)]
+mod schedules;
+#[cfg(test)]
+mod sharing;

@@ -1,5 +1,0 @@
-use Rattle.retry_rail.proofs.Gathered.{same_numbers}
-use Rattle.retry_rail.proofs.tests.run_all.Goals as goal
-
-pub returns-clause-numbers : goal.returns-clause-numbers
-returns-clause-numbers g c = same_numbers _ _ c.run_each.ensures.long c.run_each.ensures.numbers

@@ -1,6 +1,0 @@
-use Rattle.std.proofs.Common.{◌≡◌}
-use Rattle.retry_rail.specs.Retry.{IsSeatOf}
-use Rattle.retry_rail.proofs.tests.try_often.Given as goal
-
-abbrev pub invariant-loop-turn : goal.invariant-loop-turn
-invariant-loop-turn l = IsSeatOf l.queue l.seat × (l.seat.number ≡ l.initial.seat.number)

@@ -1,6 +1,0 @@
-use Rattle.std.proofs.Common.{◌≡◌, ◌≤◌, length}
-use Rattle.solo_rail.specs.Solo.{IsSeatOf}
-use Rattle.solo_rail.proofs.tests.takes_end_at_the_next_place.Given as goal
-
-abbrev pub invariant-loop-word : goal.invariant-loop-word
-invariant-loop-word g l = IsSeatOf l.rail l.seat × (l.rail.shape.seats ≡ 1) × (length l.seat.view.made ≤ l.word-index)
