@@ -14,7 +14,7 @@ use Rattle.bbq_core.specs.Counts.{fetches, makes, takes}
 use Rattle.bbq_core.specs.Sound.{IsFilled, IsPassed, IsReserved, IsSoundAt}
 use Rattle.bbq_core.proofs.TakeLoads.{committed_found}
 use Rattle.bbq_core.proofs.TakeFacts.{reserved_below, reserved_made, upto_from}
-use Rattle.bbq_core.proofs.Blocks.{latest_is}
+use Rattle.cursor_word.proofs.Blocks.{latest_is}
 use Rattle.bbq_core.proofs.Facts.{allocated_to, filled_opened, none_from, one_to, opened_spent, physical}
 use Rattle.bbq_core.proofs.Facts.{place_next}
 use Rattle.bbq_core.proofs.Opens.{takes_le, upto_all}

@@ -17,7 +17,7 @@ use Rattle.bbq_core.specs.Blocks.{Newest, allocated_word, committed_word, consum
 use Rattle.bbq_core.specs.Counts.{adds, adds_in, claim_count, claimed, claims, fetch_count, fetched, fetches, held, makes, one_at, one_below, sum_below, takes, times}
 use Rattle.bbq_core.specs.Sound.{HasWords, HoldsWords, IsSoundAt, PutFits}
 use Rattle.bbq_core.proofs.Views.{sum_set, times_push}
-use Rattle.bbq_core.proofs.Blocks.{same_near}
+use Rattle.cursor_word.proofs.Blocks.{same_near}
 use Rattle.bbq_core.proofs.Frames.{adds_bound, after_put, fetched_idle, made_kept, Grows, fits_grows, sum_same, takes_same, upto_same}
 use Rattle.bbq_core.proofs.Quiet.{fits_at, is_putting}
 use Rattle.bbq_core.proofs.Facts.{none_from, one_to, physical}

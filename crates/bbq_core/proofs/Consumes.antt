@@ -24,7 +24,7 @@ use Rattle.bbq_core.proofs.TakeLoads.{pick_less}
 use Rattle.bbq_core.proofs.TakeFacts.{made_counts}
 use Rattle.bbq_core.proofs.TakeFrames.{idle_adds, after_taking, claimed_idle, is_taking, knows_at, took}
 use Rattle.bbq_core.proofs.Views.{sum_set, times_push}
-use Rattle.bbq_core.proofs.Blocks.{same_near}
+use Rattle.cursor_word.proofs.Blocks.{same_near}
 use Rattle.bbq_core.proofs.Frames.{adds_bound, counts_quiet, made_same, take_phase_grows, takes_grow, sum_same, upto_same}
 use Rattle.bbq_core.proofs.Facts.{one_to, physical}
 use Rattle.std.specs.Prelude.{take}

@@ -20,7 +20,7 @@ use Rattle.bbq_core.specs.Blocks.{Newest, PutWords, allocated_word, committed_wo
 use Rattle.bbq_core.specs.Counts.{Counts, adds, adds_in, claim_count, claimed, claims, fetch_count, fetched, fetches, makes, one_at, one_below, takes, times}
 use Rattle.bbq_core.specs.Sound.{IsSoundAt, PutFits}
 use Rattle.bbq_core.proofs.Views.{by_test, rising_push, sum_set, times_push}
-use Rattle.bbq_core.proofs.Blocks.{latest_is, same_near}
+use Rattle.cursor_word.proofs.Blocks.{latest_is, same_near}
 use Rattle.bbq_core.proofs.Frames.{adds_bound, after_put, fetched_idle, made_same, ended, fits_grows, sum_same, takes_same, upto_same}
 use Rattle.bbq_core.proofs.Quiet.{fits_at, holds_none, is_putting, quiet}
 use Rattle.bbq_core.proofs.Facts.{IsFound, allocated_below, found, found_filled, physical}

@@ -1,5 +1,4 @@
 pub mod Views
-pub mod Blocks
 pub mod Frames
 pub mod Facts
 pub mod Quiet

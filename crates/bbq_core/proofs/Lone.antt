@@ -20,7 +20,7 @@ use Rattle.bbq_core.specs.Counts.{claim_count, claims, fetch_count, fetches, hel
 use Rattle.bbq_core.specs.Sound.{IsSoundAt}
 use Rattle.bbq_core.specs.Manned.{IsManned, in_all, opens_allocated, opens_reserved, raises_consumer, raises_producer}
 use Rattle.bbq_core.specs.Alone.{OthersRest}
-use Rattle.bbq_core.proofs.Blocks.{latest, latest_is, shifted}
+use Rattle.cursor_word.proofs.Blocks.{latest, latest_is, shifted}
 use Rattle.bbq_core.proofs.Facts.{none_from, one_in, one_to, physical, place_next}
 use Rattle.bbq_core.proofs.Opens.{takes_le, upto_all}
 use Rattle.bbq_core.proofs.TakeFacts.{upto_cut}

@@ -20,7 +20,7 @@ use Rattle.bbq_core.specs.Blocks.{PutWords, TakeWords, allocated_word, committed
 use Rattle.bbq_core.specs.Counts.{adds, adds_in, claim_count, claimed, claims, fetch_count, fetched, fetches, held, makes, one_at, reading, sum_below, takes, times}
 use Rattle.bbq_core.specs.Sound.{IsCurrent, IsSoundAt, PutFits, PutKnows}
 use Rattle.bbq_core.proofs.Views.{sum_set, times_push}
-use Rattle.bbq_core.proofs.Blocks.{latest_is, same_near, shifted}
+use Rattle.cursor_word.proofs.Blocks.{latest_is, same_near, shifted}
 use Rattle.bbq_core.proofs.Frames.{after_put, fetched_idle, made_same, ended, fits_grows, sum_same, takes_same, upto_same}
 use Rattle.bbq_core.proofs.Quiet.{fits_at, holds_none, is_putting, loads}
 use Rattle.bbq_core.proofs.Facts.{IsPhysical, filled_opened, none_from, one_to, physical}

@@ -32,7 +32,7 @@ use Rattle.bbq_core.specs.Moments.{EmptyAt, FullAt}
 use Rattle.bbq_core.specs.Causes.{Differ}
 use Rattle.bbq_core.proofs.Views.{by_test_le, not_there, one_le_sum, times-cons, two_le_sum}
 use Rattle.bbq_core.proofs.Stores.{counted}
-use Rattle.bbq_core.proofs.Blocks.{latest, latest_is, same_block}
+use Rattle.cursor_word.proofs.Blocks.{latest, latest_is, same_block}
 use Rattle.bbq_core.proofs.Facts.{all_below, committed_below, found, none_from, one_in, one_to, physical, repacked}
 use Rattle.bbq_core.proofs.Quiet.{fits_at}
 use Rattle.bbq_core.proofs.TakeFrames.{knows_at}

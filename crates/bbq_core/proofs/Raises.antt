@@ -14,7 +14,7 @@ use Rattle.bbq_core.specs.declared.op.After.TheVariants.{Next}
 use Rattle.bbq_core.specs.Machine.{view_after, words_after}
 use Rattle.bbq_core.specs.Blocks.{Newest, PutWords, allocated_word, committed_word, place}
 use Rattle.bbq_core.specs.Sound.{IsSoundAt}
-use Rattle.bbq_core.proofs.Blocks.{latest, latest_is, same_block, same_near}
+use Rattle.cursor_word.proofs.Blocks.{latest, latest_is, same_block, same_near}
 use Rattle.bbq_core.proofs.Frames.{ended}
 use Rattle.bbq_core.proofs.Quiet.{fits_at, holds_none, is_putting, loads, quiet}
 use Rattle.bbq_core.proofs.Facts.{IsPhysical, allocated_below, committed_below, physical}

@@ -2,14 +2,14 @@
 use Rattle.std.proofs.Common.{◌≡◌, ℕ, ◌<◌, ◌≤◌, List, length, subst, inl, inr, arith}
 use Rattle.std.specs.Prelude.{Some, slice_get, slice_index}
 use Rattle.cursor_word.specs.Shape.{Grid, IsWithinLimits}
-use Rattle.cursor_word.specs.Cursor.{packed, place_at, place_span}
+use Rattle.cursor_word.specs.Cursor.{most_block, packed, place_at, place_span}
 use Rattle.cursor_word.specs.declared.cursor.Cursor.{Cursor}
 use Rattle.rail.specs.Items.{placed}
 use Rattle.bbq_core.specs.declared.phase.Phase.{Phase}
 use Rattle.bbq_core.specs.declared.phase.Phase.TheVariants.{HeadP, SeeA, AddA, Write, Commit, SeeX, SeeR, OpenM, OpenA, RaiseP, Take}
 use Rattle.bbq_core.specs.declared.take_phase.TakePhase.TheVariants.{HeadC, SeeRes, SeeCom, SeeAll, Reserve, Read, Consume, NextCom, OpenX, OpenR, RaiseC}
 use Rattle.bbq_core.specs.declared.view.View.{View}
-use Rattle.bbq_core.specs.TakeSteps.{IsTurn, most_block}
+use Rattle.bbq_core.specs.TakeSteps.{IsTurn}
 use Rattle.bbq_core.specs.Blocks.{allocated_word, committed_word, consumed_word, reserved_word}
 use Rattle.bbq_core.specs.Counts.{made_total}
 use Rattle.bbq_core.specs.Sound.{CanStep, IsCurrent, IsFilled, IsMade, IsSound, IsSoundAt, PutKnows, TakeTurn, TakerKnows, TurnFits}

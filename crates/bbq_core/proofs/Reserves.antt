@@ -25,7 +25,7 @@ use Rattle.bbq_core.proofs.Raises.{raised}
 use Rattle.bbq_core.proofs.TakeFacts.{made_there, reserved_below}
 use Rattle.bbq_core.proofs.TakeFrames.{after_taking, claimed_idle, done_take, is_taking, knows_at, loads_take, reads_none, took}
 use Rattle.bbq_core.proofs.Views.{one_le_sum, rising_push, sum_set, times_push}
-use Rattle.bbq_core.proofs.Blocks.{latest, latest_is, same_near}
+use Rattle.cursor_word.proofs.Blocks.{latest, latest_is, same_near}
 use Rattle.bbq_core.proofs.Frames.{adds_bound, made_same, takes_grow, sum_same, upto_same}
 use Rattle.bbq_core.proofs.Facts.{found, none_from, physical}
 use Rattle.rail.specs.declared.answer.Take.TheVariants as taking

@@ -7,7 +7,7 @@ use Rattle.bbq_core.specs.Blocks.{TakeWords, allocated_word}
 use Rattle.bbq_core.specs.Counts.{made_total}
 use Rattle.bbq_core.specs.Sound.{IsSound, IsSoundAt}
 use Rattle.bbq_core.specs.Laws.{WordsAreSmall}
-use Rattle.bbq_core.proofs.Blocks.{latest_is}
+use Rattle.cursor_word.proofs.Blocks.{latest_is}
 use Rattle.bbq_core.proofs.Facts.{IsPhysical, allocated_below, committed_below, physical}
 use Rattle.bbq_core.proofs.TakeFacts.{reserved_below}
 use Rattle.bbq_core.proofs.Keeps.{opened_few}

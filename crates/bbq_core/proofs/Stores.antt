@@ -19,7 +19,7 @@ use Rattle.bbq_core.specs.Blocks.{Newest, allocated_word, committed_word, consum
 use Rattle.bbq_core.specs.Counts.{IsPutting, adds_in, claimed, claims, held, makes, one_at, one_below, times}
 use Rattle.bbq_core.specs.Sound.{HasWords, HoldsWords, IsCurrent, IsSoundAt, PutKnows}
 use Rattle.bbq_core.proofs.Views.{by_test, one_le_sum, times_push}
-use Rattle.bbq_core.proofs.Blocks.{same_near}
+use Rattle.cursor_word.proofs.Blocks.{same_near}
 use Rattle.bbq_core.proofs.Frames.{after_put, fetched_idle, made_same, counts_quiet, ended, takes_same}
 use Rattle.bbq_core.proofs.Quiet.{fits_at, is_putting}
 use Rattle.bbq_core.proofs.Facts.{allocated_to, one_to}

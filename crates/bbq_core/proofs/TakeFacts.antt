@@ -19,7 +19,7 @@ use Rattle.bbq_core.specs.Blocks.{NewestTaken, TakeWords, committed_word, consum
 use Rattle.bbq_core.specs.Counts.{claims, fetches, makes, one_at, one_below, reading, sum_below, takes, times}
 use Rattle.bbq_core.specs.Sound.{IsMade, IsSoundAt, TakerKnows}
 use Rattle.bbq_core.proofs.Views.{one_le_sum}
-use Rattle.bbq_core.proofs.Blocks.{latest, latest_is, same_block, shifted}
+use Rattle.cursor_word.proofs.Blocks.{latest, latest_is, same_block, shifted}
 use Rattle.bbq_core.proofs.Facts.{IsPhysical, repacked}
 use Rattle.std.proofs.lemmas.List.Sums.{sum_by-append, sum_by-cons, sum_by-le-sum_by}
 use Rattle.bbq_core.proofs.Facts.{one_in, place_next}

@@ -20,7 +20,7 @@ use Rattle.bbq_core.specs.Sound.{IsPassed, IsReserved, IsSoundAt}
 use Rattle.bbq_core.proofs.TakeFacts.{found_R, made_once, reserved_made, reserved_to, upto_cut, upto_from}
 use Rattle.bbq_core.proofs.TakeFrames.{IsNextTake, done_take, is_taking, knows_at, loads_take, reads_none}
 use Rattle.bbq_core.proofs.Views.{by_test}
-use Rattle.bbq_core.proofs.Blocks.{latest, latest_is}
+use Rattle.cursor_word.proofs.Blocks.{latest, latest_is}
 use Rattle.bbq_core.proofs.Facts.{IsPhysical, found_open, none_from, one_to, physical, repacked}
 use Rattle.bbq_core.proofs.Commits.{upto_le}
 use Rattle.bbq_core.proofs.Opens.{upto_all}

@@ -23,7 +23,7 @@ use Rattle.bbq_core.specs.Sound.{IsCurrent, IsSoundAt, TakeFits, TakeKnows, Take
 use Rattle.bbq_core.proofs.Raises.{raised}
 use Rattle.bbq_core.proofs.TakeFacts.{reserved_below}
 use Rattle.bbq_core.proofs.TakeFrames.{after_taking, claimed_idle, is_taking, knows_at, loads_take, reads_none, took}
-use Rattle.bbq_core.proofs.Blocks.{latest_is, same_near, shifted}
+use Rattle.cursor_word.proofs.Blocks.{latest_is, same_near, shifted}
 use Rattle.bbq_core.proofs.Frames.{adds_bound, made_same, takes_grow, sum_same, upto_same}
 use Rattle.bbq_core.proofs.Facts.{committed_below, none_from, physical}
 use Rattle.std.proofs.lemmas.List.Sums.{sum_by-le-sum_by}

@@ -18,7 +18,7 @@ use Rattle.bbq_core.proofs.Raises.{raised}
 use Rattle.std.proofs.Math.Nat.{mod-mod}
 use Rattle.bbq_core.proofs.TakeFacts.{reserved_below}
 use Rattle.bbq_core.proofs.TakeFrames.{is_taking, knows_at, loads_take, quiet_take, reads_none, took}
-use Rattle.bbq_core.proofs.Blocks.{latest, latest_is, same_block, same_near}
+use Rattle.cursor_word.proofs.Blocks.{latest, latest_is, same_block, same_near}
 use Rattle.bbq_core.proofs.Facts.{IsPhysical, physical}
 
 -- the consumer head is raised

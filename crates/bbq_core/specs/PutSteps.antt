@@ -1,7 +1,7 @@
 -- The steps of a put: which step each phase does, what follows it, and how many steps may follow. A phase of a take stands in Take.
 use Rattle.std.specs.Prelude.{ℕ, ◌+◌, ◌-◌, ◌*◌, ◌%◌, ◌<◌, ◌≤◌, List, nat_lt, nat_le, if◌then◌else◌, ◌==◌, slice_index}
 use Rattle.cursor_word.specs.Shape.{Grid}
-use Rattle.cursor_word.specs.Cursor.{cursor, offset_span, place_at, unpacked}
+use Rattle.cursor_word.specs.Cursor.{cursor, most_block, offset_span, place_at, unpacked}
 use Rattle.cursor_word.specs.Layout.{index_of}
 use Rattle.cursor_word.specs.Layout.{producer, allocated, committed, reserved, consumed, entry}
 use Rattle.cursor_word.specs.declared.cursor.Cursor.{Cursor}
@@ -9,7 +9,7 @@ use Rattle.rail.specs.declared.answer.Put.TheVariants as put
 use Rattle.rail.specs.declared.answer.Why.TheVariants as why
 use Rattle.bbq_core.specs.declared.phase.Phase.{Phase}
 use Rattle.bbq_core.specs.declared.phase.Phase.TheVariants.{HeadP, SeeA, AddA, Write, Commit, SeeX, SeeR, OpenM, OpenA, RaiseP, Take}
-use Rattle.bbq_core.specs.TakeSteps.{IsBlock, IsTakeInRange, IsTurn, TakeFindsFit, after_take, by_turn, is_same, most_block, rank_take, want_take}
+use Rattle.bbq_core.specs.TakeSteps.{IsBlock, IsTakeInRange, IsTurn, TakeFindsFit, after_take, by_turn, is_same, rank_take, want_take}
 use Rattle.bbq_core.specs.declared.op.Op.{Op}
 use Rattle.bbq_core.specs.declared.op.Op.TheVariants.{Load, Store, AddOne, Max}
 use Rattle.bbq_core.specs.declared.op.After.{After}

@@ -1,7 +1,7 @@
 -- The steps of a take: which step each phase does, what follows it, and how many steps may follow.
 use Rattle.std.specs.Prelude.{◌≡◌, ℕ, ◌+◌, ◌-◌, ◌*◌, ◌/◌, ◌%◌, ◌<◌, ◌≤◌, ◌⊎◌, nat_lt, if◌then◌else◌, ◌==◌, ◌&&◌, Bool}
 use Rattle.cursor_word.specs.Shape.{Grid}
-use Rattle.cursor_word.specs.Cursor.{cursor, offset_span, packed, place_at, unpacked}
+use Rattle.cursor_word.specs.Cursor.{cursor, most_block, offset_span, packed, place_at, unpacked}
 use Rattle.cursor_word.specs.Layout.{index_of}
 use Rattle.cursor_word.specs.Layout.{consumer, allocated, committed, reserved, consumed, entry}
 use Rattle.cursor_word.specs.declared.cursor.Cursor.{Cursor}
@@ -24,10 +24,6 @@ first_take = Take (HeadC 1 (cursor 0 0))
 -- a call has two turns
 abbrev pub IsTurn : ℕ → Type 0
 IsTurn turn = (turn ≡ 1) ⊎ (turn ≡ 2)
-
--- no head and no block number becomes greater than this
-abbrev pub most_block : ℕ
-most_block = 8796093022208
 
 -- a block number that a head may have
 abbrev pub IsBlock : Grid → ℕ → Type 0

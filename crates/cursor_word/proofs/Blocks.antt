@@ -15,7 +15,7 @@ reused_physical g k = add-mod_right k g.blocks
 pub shifted : (B k h : ℕ) → k + B ≡ h → k % B ≡ h % B
 shifted B k h e = sym (add-mod_right k B) ∙ ap (λ (n : ℕ). n % B) e
 
-same_block : (B k h : ℕ) → k % B ≡ h % B → k ≤ h → h < k + B → k ≡ h
+pub same_block : (B k h : ℕ) → k % B ≡ h % B → k ≤ h → h < k + B → k ≡ h
 same_block B k h e le near =
     let up : k / B < h / B → ⊥ = λ q. let m : B * (k / B + 1) ≤ B * (h / B) = mul-le-mul_left B (omega arith) in omega arith in
     let down : h / B < k / B → ⊥ = λ q. let m : B * (h / B + 1) ≤ B * (k / B) = mul-le-mul_left B (omega arith) in omega arith in
