@@ -4,6 +4,7 @@ use profile_cli::{Closed, SoloRails, profile};
 use rail::Rail;
 use solo_rail::SoloRetry;
 use std::alloc::{AllocError, Global};
+use std::process::Abort;
 use std::sync::Wait;
 use std::test::Fail;
 use std::thread::Threads;
@@ -21,7 +22,7 @@ struct Left {
 }
 
 /// What a run of the command may find: the source's calls that fail, and the room for the counts and for the trace.
-#[derive(Drop)]
+#[derive(Clone, Copy)]
 struct World<'a> {
     fails: &'a [u64],
     room: usize,
@@ -84,209 +85,192 @@ const AB: &[u8] = b"a b a\n";
 
 const COUNTS: &[u8] = b"words 3 distinct 2\n2 a\n1 b\n";
 
+const TWO_WORKERS: &[&str] = &[
+    "--trace",
+    "t.json",
+    "--workers",
+    "2",
+    "--blocks",
+    "2",
+    "--size",
+    "1",
+    "--piece",
+    "4",
+    "ab.txt",
+    "ab.txt",
+];
+
 /// The trace of `a b a` and a newline in `ab.txt` by one worker, with a clock that counts from 0 by ones.
-const TRACE: &str =
-    "{\"displayTimeUnit\":\"ms\",\"otherData\":{\"accepted\":2,\"kept\":2},\"traceEvents\":[{\"args\":{\"file\":0,\"piece\":0,\"words\":3},\"cat\":\"piece\",\"dur\":1,\"name\":\"ab.txt\",\"ph\":\"X\",\"pid\":1,\"tid\":1,\"ts\":1},{\"args\":{\"pieces\":1,\"words\":3},\"cat\":\"worker\",\"dur\":3,\"name\":\"worker\",\"ph\":\"X\",\"pid\":1,\"tid\":1,\"ts\":0}]}\n";
+const TRACE: &[u8] =
+    b"{\"displayTimeUnit\":\"ms\",\"otherData\":{\"accepted\":2,\"kept\":2},\"traceEvents\":[{\"args\":{\"file\":0,\"piece\":0,\"words\":3},\"cat\":\"piece\",\"dur\":1,\"name\":\"ab.txt\",\"ph\":\"X\",\"pid\":1,\"tid\":1,\"ts\":1},{\"args\":{\"pieces\":1,\"words\":3},\"cat\":\"worker\",\"dur\":3,\"name\":\"worker\",\"ph\":\"X\",\"pid\":1,\"tid\":1,\"ts\":0}]}\n";
 
 /// The trace of an empty file by two workers.
-const IDLE: &str =
-    "{\"displayTimeUnit\":\"ms\",\"otherData\":{\"accepted\":2,\"kept\":2},\"traceEvents\":[{\"args\":{\"pieces\":0,\"words\":0},\"cat\":\"worker\",\"dur\":1,\"name\":\"worker\",\"ph\":\"X\",\"pid\":1,\"tid\":1,\"ts\":0},{\"args\":{\"pieces\":0,\"words\":0},\"cat\":\"worker\",\"dur\":1,\"name\":\"worker\",\"ph\":\"X\",\"pid\":1,\"tid\":2,\"ts\":0}]}\n";
+const IDLE: &[u8] =
+    b"{\"displayTimeUnit\":\"ms\",\"otherData\":{\"accepted\":2,\"kept\":2},\"traceEvents\":[{\"args\":{\"pieces\":0,\"words\":0},\"cat\":\"worker\",\"dur\":1,\"name\":\"worker\",\"ph\":\"X\",\"pid\":1,\"tid\":1,\"ts\":0},{\"args\":{\"pieces\":0,\"words\":0},\"cat\":\"worker\",\"dur\":1,\"name\":\"worker\",\"ph\":\"X\",\"pid\":1,\"tid\":2,\"ts\":0}]}\n";
 
 /// The trace of two such files by two workers, in pieces of at least four bytes but for the last of each.
-const TWICE: &str =
-    "{\"displayTimeUnit\":\"ms\",\"otherData\":{\"accepted\":6,\"kept\":6},\"traceEvents\":[{\"args\":{\"file\":0,\"piece\":0,\"words\":3},\"cat\":\"piece\",\"dur\":1,\"name\":\"ab.txt\",\"ph\":\"X\",\"pid\":1,\"tid\":1,\"ts\":1},{\"args\":{\"file\":0,\"piece\":1,\"words\":0},\"cat\":\"piece\",\"dur\":1,\"name\":\"ab.txt\",\"ph\":\"X\",\"pid\":1,\"tid\":1,\"ts\":3},{\"args\":{\"file\":1,\"piece\":2,\"words\":3},\"cat\":\"piece\",\"dur\":1,\"name\":\"ab.txt\",\"ph\":\"X\",\"pid\":1,\"tid\":1,\"ts\":5},{\"args\":{\"file\":1,\"piece\":3,\"words\":0},\"cat\":\"piece\",\"dur\":1,\"name\":\"ab.txt\",\"ph\":\"X\",\"pid\":1,\"tid\":1,\"ts\":7},{\"args\":{\"pieces\":4,\"words\":6},\"cat\":\"worker\",\"dur\":9,\"name\":\"worker\",\"ph\":\"X\",\"pid\":1,\"tid\":1,\"ts\":0},{\"args\":{\"pieces\":0,\"words\":0},\"cat\":\"worker\",\"dur\":1,\"name\":\"worker\",\"ph\":\"X\",\"pid\":1,\"tid\":2,\"ts\":0}]}\n";
+const TWICE: &[u8] =
+    b"{\"displayTimeUnit\":\"ms\",\"otherData\":{\"accepted\":6,\"kept\":6},\"traceEvents\":[{\"args\":{\"file\":0,\"piece\":0,\"words\":3},\"cat\":\"piece\",\"dur\":1,\"name\":\"ab.txt\",\"ph\":\"X\",\"pid\":1,\"tid\":1,\"ts\":1},{\"args\":{\"file\":0,\"piece\":1,\"words\":0},\"cat\":\"piece\",\"dur\":1,\"name\":\"ab.txt\",\"ph\":\"X\",\"pid\":1,\"tid\":1,\"ts\":3},{\"args\":{\"file\":1,\"piece\":2,\"words\":3},\"cat\":\"piece\",\"dur\":1,\"name\":\"ab.txt\",\"ph\":\"X\",\"pid\":1,\"tid\":1,\"ts\":5},{\"args\":{\"file\":1,\"piece\":3,\"words\":0},\"cat\":\"piece\",\"dur\":1,\"name\":\"ab.txt\",\"ph\":\"X\",\"pid\":1,\"tid\":1,\"ts\":7},{\"args\":{\"pieces\":4,\"words\":6},\"cat\":\"worker\",\"dur\":9,\"name\":\"worker\",\"ph\":\"X\",\"pid\":1,\"tid\":1,\"ts\":0},{\"args\":{\"pieces\":0,\"words\":0},\"cat\":\"worker\",\"dur\":1,\"name\":\"worker\",\"ph\":\"X\",\"pid\":1,\"tid\":2,\"ts\":0}]}\n";
 
-#[test]
-fn counts_and_traces_or_names_the_refusal(rt: HostRuntime) -> Result<(), Fail> {
-    let alloc = rt.alloc();
-    for (words, bytes, status, detail, accepted, out, message) in [
-        (
-            ["--workers", "1", "ab.txt"].as_slice(),
-            AB,
-            0,
-            0,
-            Some(2),
-            COUNTS,
-            b"".as_slice(),
-        ),
-        (
-            &["ab.txt", "ab.txt"],
-            AB,
-            0,
-            0,
-            Some(6),
-            b"words 6 distinct 2\n4 a\n2 b\n",
-            b"",
-        ),
-        (
-            &["ab.txt"],
-            &[97, 255, 0, 98, 10],
-            0,
-            0,
-            Some(5),
-            b"words 1 distinct 1\n1 a\xff\x00b\n",
-            b"",
-        ),
-        (
-            &["--blocks", "2", "--size", "1", "--piece", "1", "ab.txt"],
-            b"to be or not to be\n",
-            0,
-            0,
-            Some(11),
-            b"words 6 distinct 4\n2 be\n1 not\n1 or\n2 to\n",
-            b"",
-        ),
-        (&[], AB, 2, 8, None, b"", b"bbq-profile: usage: input\n"),
-        (
-            &["--blocks", "1", "ab.txt"],
-            AB,
-            2,
-            4,
-            None,
-            b"",
-            b"bbq-profile: usage: blocks\n",
-        ),
-        (
-            &["ab.txt", "no such.txt"],
-            AB,
-            4,
-            1,
-            None,
-            b"",
-            b"bbq-profile: cannot read no such.txt\n",
-        ),
-    ] {
-        let left = tried(
-            &rt,
-            alloc,
-            words,
-            "ab.txt",
-            Vec::from_slice(alloc, bytes)?,
-            &AMPLE,
-        )?;
-        assert_eq!(rt; left.status, status);
-        assert_eq!(rt; left.detail, detail);
-        assert_eq!(rt; left.accepted, accepted);
-        assert_eq!(rt; left.out.bytes(), out);
-        assert_eq!(rt; left.messages.bytes(), message);
-        assert_eq!(rt; left.trace.documents(), usize::from(status == 0));
-    }
-    Ok(())
+/// A run of the command over the file `ab.txt`, and what it leaves. The trace is given where it was worked out.
+#[derive(Clone, Copy)]
+struct Case<'a> {
+    words: &'a [&'a str],
+    bytes: &'a [u8],
+    world: World<'a>,
+    status: u8,
+    detail: u64,
+    accepted: Option<u64>,
+    out: &'a [u8],
+    name: Option<&'a str>,
+    trace: Option<&'a [u8]>,
+    message: &'a [u8],
 }
 
-#[test]
-fn traces_each_worker(rt: HostRuntime) -> Result<(), Fail> {
-    let alloc = rt.alloc();
-    for (words, bytes, name, trace, counts) in [
-        (
-            ["--workers", "1", "ab.txt"].as_slice(),
-            AB,
-            "trace.json",
-            TRACE,
-            COUNTS,
-        ),
-        (
-            &["--workers", "2", "ab.txt"],
-            b"".as_slice(),
-            "trace.json",
-            IDLE,
-            b"words 0 distinct 0\n".as_slice(),
-        ),
-        // A queue of two spans is full before the third.
-        (
-            &[
-                "--trace",
-                "t.json",
-                "--workers",
-                "2",
-                "--blocks",
-                "2",
-                "--size",
-                "1",
-                "--piece",
-                "4",
-                "ab.txt",
-                "ab.txt",
-            ],
-            AB,
-            "t.json",
-            TWICE,
-            b"words 6 distinct 2\n4 a\n2 b\n",
-        ),
-    ] {
-        let left = tried(
-            &rt,
-            alloc,
-            words,
-            "ab.txt",
-            Vec::from_slice(alloc, bytes)?,
-            &AMPLE,
-        )?;
-        assert_eq!(rt; left.status, 0);
-        assert_eq!(rt; left.out.bytes(), counts);
-        assert_eq!(rt; left.trace.name(0), Some(name));
-        assert_eq!(rt; left.trace.bytes(0), Some(trace.as_bytes()));
+/// A run that does everything.
+const DONE: Case = Case {
+    words: &["ab.txt"],
+    bytes: AB,
+    world: AMPLE,
+    status: 0,
+    detail: 0,
+    accepted: Some(5),
+    out: b"",
+    name: Some("trace.json"),
+    trace: None,
+    message: b"",
+};
+
+/// A run that is refused before it begins.
+const REFUSED: Case = Case {
+    words: &["ab.txt"],
+    bytes: AB,
+    world: AMPLE,
+    status: 4,
+    detail: 0,
+    accepted: None,
+    out: b"",
+    name: None,
+    trace: None,
+    message: b"",
+};
+
+fn is_left(rt: &impl Abort, left: &Left, case: &Case<'_>) {
+    let numbers = (left.status, left.detail, left.accepted);
+    let texts = (left.out.bytes(), left.messages.bytes());
+    let names = (left.trace.name(0), left.trace.name(1));
+    assert_eq!(rt;
+        numbers,
+        (case.status, case.detail, case.accepted),
+        "{:?}",
+        case.words
+    );
+    assert_eq!(rt; texts, (case.out, case.message), "{:?}", case.words);
+    assert_eq!(rt; names, (case.name, None), "{:?}", case.words);
+    if case.trace.is_some() {
+        assert_eq!(rt; left.trace.bytes(0), case.trace, "{:?}", case.words);
     }
-    Ok(())
 }
 
+const CASES: &[Case] = &[
+    Case {
+        words: &["--workers", "1", "ab.txt"],
+        accepted: Some(2),
+        out: COUNTS,
+        trace: Some(TRACE),
+        ..DONE
+    },
+    Case {
+        words: &["--workers", "2", "ab.txt"],
+        bytes: b"",
+        accepted: Some(2),
+        out: b"words 0 distinct 0\n",
+        trace: Some(IDLE),
+        ..DONE
+    },
+    // A queue of two spans is full before the third.
+    Case {
+        words: TWO_WORKERS,
+        accepted: Some(6),
+        out: b"words 6 distinct 2\n4 a\n2 b\n",
+        name: Some("t.json"),
+        trace: Some(TWICE),
+        ..DONE
+    },
+    Case {
+        words: &["--blocks", "2", "--size", "1", "--piece", "1", "ab.txt"],
+        bytes: b"to be or not to be\n",
+        accepted: Some(11),
+        out: b"words 6 distinct 4\n2 be\n1 not\n1 or\n2 to\n",
+        ..DONE
+    },
+    Case {
+        bytes: &[97, 255, 0, 98, 10],
+        out: b"words 1 distinct 1\n1 a\xff\x00b\n",
+        ..DONE
+    },
+    Case {
+        words: &[],
+        status: 2,
+        detail: 8,
+        message: b"bbq-profile: usage: input\n",
+        ..REFUSED
+    },
+    Case {
+        words: &["--blocks", "1", "ab.txt"],
+        status: 2,
+        detail: 4,
+        message: b"bbq-profile: usage: blocks\n",
+        ..REFUSED
+    },
+    Case {
+        words: &["ab.txt", "no such.txt"],
+        detail: 1,
+        message: b"bbq-profile: cannot read no such.txt\n",
+        ..REFUSED
+    },
+    // The first call starts the file, and the third is its second read.
+    Case {
+        world: World {
+            fails: &[2],
+            ..AMPLE
+        },
+        message: b"bbq-profile: cannot read ab.txt\n",
+        ..REFUSED
+    },
+    Case {
+        words: &["--workers", "1", "ab.txt"],
+        world: World { room: 5, ..AMPLE },
+        status: 5,
+        accepted: Some(2),
+        out: b"words",
+        name: None,
+        message: b"bbq-profile: cannot write counts\n",
+        ..DONE
+    },
+    // The name takes 10 bytes of the room.
+    Case {
+        words: &["--workers", "1", "ab.txt"],
+        world: World {
+            trace_room: 20,
+            ..AMPLE
+        },
+        status: 9,
+        accepted: Some(2),
+        out: COUNTS,
+        trace: Some(b"{\"displayT"),
+        message: b"bbq-profile: cannot write trace\n",
+        ..DONE
+    },
+];
+
 #[test]
-fn names_a_failed_read_or_write(rt: HostRuntime) -> Result<(), Fail> {
+fn leaves_what_was_worked_out_by_hand(rt: HostRuntime) -> Result<(), Fail> {
     let alloc = rt.alloc();
-    for (fails, room, trace_room, status, accepted, out, trace, message) in [
-        // The first call starts the file, and the third is its second read.
-        (
-            [2].as_slice(),
-            100,
-            500,
-            4,
-            None,
-            b"".as_slice(),
-            None,
-            b"bbq-profile: cannot read ab.txt\n".as_slice(),
-        ),
-        (
-            &[],
-            5,
-            500,
-            5,
-            Some(2),
-            b"words",
-            None,
-            b"bbq-profile: cannot write counts\n",
-        ),
-        // The name takes 10 bytes of the room.
-        (
-            &[],
-            100,
-            20,
-            9,
-            Some(2),
-            COUNTS,
-            Some(b"{\"displayT".as_slice()),
-            b"bbq-profile: cannot write trace\n",
-        ),
-    ] {
-        let world = World {
-            fails,
-            room,
-            trace_room,
-        };
-        let words = ["--workers", "1", "ab.txt"];
-        let left = tried(
-            &rt,
-            alloc,
-            &words,
-            "ab.txt",
-            Vec::from_slice(alloc, AB)?,
-            &world,
-        )?;
-        assert_eq!(rt; left.status, status);
-        assert_eq!(rt; left.detail, 0);
-        assert_eq!(rt; left.accepted, accepted);
-        assert_eq!(rt; left.out.bytes(), out);
-        assert_eq!(rt; left.trace.bytes(0), trace);
-        assert_eq!(rt; left.messages.bytes(), message);
+    for case in CASES {
+        let bytes = Vec::from_slice(alloc, case.bytes)?;
+        let left = tried(&rt, alloc, case.words, "ab.txt", bytes, &case.world)?;
+        is_left(&rt, &left, case);
     }
     Ok(())
 }

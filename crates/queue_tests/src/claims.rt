@@ -15,16 +15,19 @@ fn two_seats_draw_two_numbers(rt: HostRuntime) -> Result<(), Fail> {
     let Some(mut first) = seats.pop() else {
         unreachable!()
     };
-    assert_eq!(rt; claim.claim(&mut first), Some(0));
-    assert_eq!(rt; claim.claim(&mut second), Some(1));
-    assert_eq!(rt; claim.claim(&mut first), None);
-    assert_eq!(rt; claim.claim(&mut first), None);
-    assert_eq!(rt; claim.claim(&mut second), None);
-    assert_eq!(rt; claim.ended(&mut second), 0);
+    let drawn = [
+        claim.claim(&mut first),
+        claim.claim(&mut second),
+        claim.claim(&mut first),
+        claim.claim(&mut first),
+        claim.claim(&mut second),
+    ];
+    assert_eq!(rt; drawn, [Some(0), Some(1), None, None, None]);
+    let before = claim.ended(&mut second);
     claim.end(&mut first);
-    assert_eq!(rt; claim.ended(&mut second), 1);
+    let after = claim.ended(&mut second);
     claim.end(&mut first);
-    assert_eq!(rt; claim.ended(&mut second), 1);
+    assert_eq!(rt; [before, after, claim.ended(&mut second)], [0, 1, 1]);
     Ok(())
 }
 
