@@ -5,15 +5,15 @@ ghost use Rattle.cursor_word.specs.Layout.{IsPart, Part, index_of, word_count};
 
 use std::marker::Model;
 
-const LEAST_BLOCKS: u64 = 2;
+pub const LEAST_BLOCKS: u64 = 2;
 
-const MOST_BLOCKS: u64 = 256;
+pub const MOST_BLOCKS: u64 = 256;
 
-const MOST_SIZE: u64 = 65536;
+pub const MOST_SIZE: u64 = 65536;
 
 const MOST_WIDTH: u64 = 8;
 
-const MOST_SEATS: u64 = 1024;
+pub const MOST_SEATS: u64 = 1024;
 
 // How many blocks the seats of a queue may fill together.
 const BLOCK_ROOM: u64 = 1 << 42;
