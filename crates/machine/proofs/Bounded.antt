@@ -4,8 +4,7 @@ use Rattle.std.specs.Prelude.{Option, Some, None, slice_get}
 use Rattle.std.specs.List.{AllByRecursion}
 use Rattle.std.proofs.lemmas.List.{length-append}
 use Rattle.cursor_word.specs.Shape.{Grid, IsWithinLimits}
-use Rattle.cursor_word.specs.Cursor.{place_span}
-use Rattle.rail.specs.Rail.{most_puts}
+use Rattle.cursor_word.specs.Cursor.{most_puts, place_span}
 use Rattle.rail.specs.declared.answer.Answer.{Answer}
 use Rattle.machine.specs.declared.op.After.{After}
 use Rattle.machine.specs.declared.op.After.TheVariants.{Next, Done}
@@ -60,7 +59,7 @@ module _ {P : Type 0} (t : Table P) (of_phase : Grid → P → ℕ) (of_answer :
   moves_fit ws b (Some p) e r fit = steps_fit b p _ e (r p refl) fit
 
   module _ (Holds : Fact P) (law : IsInvariant t Holds) (limits : IsWithinLimits g) where
-    any_fit : (w : MachineState P) (id : ℕ) (s : Start) (o : Option (View P)) → Holds g w.words w.views → made_total w.views < place_span → slice_get w.views id ≡ o → IsWide g s → t.MayBegin g id s → AllFit w.views
+    any_fit : (w : MachineState P) (id : ℕ) (s : Start) (o : Option (View P)) → Holds g w.words w.views → made_total w.views ≤ place_span g → slice_get w.views id ≡ o → IsWide g s → t.MayBegin g id s → AllFit w.views
         → AllFit (turn t g w id s o).views
     any_fit w id s None k room at wide may fit = fit
     any_fit w id s (Some v) k room at wide may fit =
@@ -68,12 +67,12 @@ module _ {P : Type 0} (t : Table P) (of_phase : Grid → P → ℕ) (of_answer :
         let mine : StepsFit (turned t g w.words v s).view = moves_fit w.words b b.phase refl (λ p e. (can_turn t Holds law g limits w.words w.views id v s v.phase p k room at refl wide may e).range) (begun_fits v v.phase s (fit id v at)) in
         λ j u q. ⊎_elim (λ r. subst StepsFit r.1 mine) (λ r. fit j u r.1) (get_set w.views id j (turned t g w.words v s).view u q)
 
-    next_fit : (w : MachineState P) (o : Option Event) → Holds g w.words w.views → made_total w.views < place_span → ((e : Event) → o ≡ Some e → Suits t g e) → AllFit w.views → AllFit (stepped t g w o).views
+    next_fit : (w : MachineState P) (o : Option Event) → Holds g w.words w.views → made_total w.views ≤ place_span g → ((e : Event) → o ≡ Some e → Suits t g e) → AllFit w.views → AllFit (stepped t g w o).views
     next_fit w None k room suits fit = fit
     next_fit w (Some e) k room suits fit = any_fit w e.seat e.start (slice_get w.views e.seat) k room refl (suits e refl).wide (suits e refl).may_begin fit
 
     -- at each moment of each schedule
-    pub moment_fits : (events : List Event) (n : ℕ) → AllByRecursion (Suits t g) events → length events < most_puts → AllFit (moment t g events n).views
+    pub moment_fits : (events : List Event) (n : ℕ) → AllByRecursion (Suits t g) events → length events < most_puts g → AllFit (moment t g events n).views
     moment_fits events zero suits few = λ j u q. subst StepsFit (get_replicate g.seats (resting P g) j u q) (omega arith)
     moment_fits events (suc n) suits few =
         subst (λ (w : MachineState P). AllFit w.views) (sym (run_next t g (start_state P g) events n))

@@ -10,8 +10,8 @@ use Rattle.std.proofs.lemmas.List.Sums.{sum_by-le}
 use Rattle.std.proofs.lemmas.Option.{slice_get-get_or, slice_get_read}
 use Rattle.std.proofs.Math.Nat.{mul-le-mul_right}
 use Rattle.cursor_word.specs.Shape.{Grid, IsWithinLimits}
-use Rattle.cursor_word.specs.Cursor.{place_span}
-use Rattle.rail.specs.Rail.{most_puts}
+use Rattle.cursor_word.specs.Cursor.{most_puts, place_span}
+use Rattle.cursor_word.proofs.Places.{most_puts_fit}
 use Rattle.machine.specs.declared.view.View.{View}
 use Rattle.machine.specs.declared.event.Start.{Start}
 use Rattle.machine.specs.declared.event.Event.{Event}
@@ -57,28 +57,27 @@ module _ {P : Type 0} (t : Table P) (g : Grid) where
   pub turned_long : (ws : List ℕ) (v : View P) (s : Start) → length (turned t g ws v s).words ≡ length ws
   turned_long ws v s = moves_long ws (begun t g v v.phase s) (begun t g v v.phase s).phase
 
-  made_in : (es : List Event) (n id : ℕ) → length es < most_puts → (o : Option (View P)) → slice_get (moment t g es n).views id ≡ o → made_count (unwrap_or o (resting P g)) < most_puts
+  made_in : (es : List Event) (n id : ℕ) → length es < most_puts g → (o : Option (View P)) → slice_get (moment t g es n).views id ≡ o → made_count (unwrap_or o (resting P g)) < most_puts g
   made_in es n id few None at = omega arith
   made_in es n id few (Some v) at = let m = made_few t g es n id v at in omega arith
 
   -- while few events were done, each seat may make one more
-  pub made_below : (es : List Event) (n id : ℕ) → length es < most_puts → made_count (view_of record { shape = g; state = moment t g es n } id) < most_puts
+  pub made_below : (es : List Event) (n id : ℕ) → length es < most_puts g → made_count (view_of record { shape = g; state = moment t g es n } id) < most_puts g
   made_below es n id few = made_in es n id few (slice_get (moment t g es n).views id) refl
 
 module _ {P : Type 0} (t : Table P) (Holds : Fact P) (law : IsInvariant t Holds) (g : Grid) where
   -- few entries are made
-  total_few : (ws : List ℕ) (vs : List (View P)) → IsKept Holds (state_of g ws vs) → made_total vs < place_span
+  total_few : (ws : List ℕ) (vs : List (View P)) → IsKept Holds (state_of g ws vs) → made_total vs ≤ place_span g
   total_few ws vs k =
-      let sum = sum_by-le made_count most_puts vs (λ j d h. k.few j (get_or vs j d) (slice_get-get_or vs j d h)) in
-      let few : length vs ≤ 256 = omega (arith, k.all, k.limits.seats_to) in
-      let m : length vs * most_puts ≤ 256 * most_puts = mul-le-mul_right most_puts few in
-      omega arith
+      let sum = sum_by-le made_count (most_puts g) vs (λ j d h. k.few j (get_or vs j d) (slice_get-get_or vs j d h)) in
+      let all : length vs * most_puts g ≡ g.seats * most_puts g = ap (λ (n : ℕ). n * most_puts g) k.all in
+      omega (arith, most_puts_fit g)
 
   -- a seat at its turn can step
   pub ready_at_turn : (ws : List ℕ) (vs : List (View P)) (id : ℕ) (v : View P) (s : Start) → IsKept Holds (state_of g ws vs) → slice_get vs id ≡ Some v → IsWide g s → t.MayBegin g id s → (p : P) → (begun t g v v.phase s).phase ≡ Some p → CanStep t g ws (begun t g v v.phase s) p
   ready_at_turn ws vs id v s k at wide may p is = can_turn t Holds law g k.limits ws vs id v s v.phase p k.holds (total_few ws vs k) at refl wide may is
 
-  kept_turn : (ws : List ℕ) (vs : List (View P)) (id : ℕ) (v : View P) (s : Start) (c : Scene P) → IsKept Holds (state_of g ws vs) → slice_get vs id ≡ Some v → IsWide g s → t.MayBegin g id s → made_count v < most_puts → turned t g ws v s ≡ c
+  kept_turn : (ws : List ℕ) (vs : List (View P)) (id : ℕ) (v : View P) (s : Start) (c : Scene P) → IsKept Holds (state_of g ws vs) → slice_get vs id ≡ Some v → IsWide g s → t.MayBegin g id s → made_count v < most_puts g → turned t g ws v s ≡ c
       → IsKept Holds (state_of g c.words (slice_set vs id c.view))
   kept_turn ws vs id v s c k at wide may room is = subst (λ (c : Scene P). IsKept Holds (state_of g c.words (slice_set vs id c.view))) is
       record {
@@ -90,7 +89,7 @@ module _ {P : Type 0} (t : Table P) (Holds : Fact P) (law : IsInvariant t Holds)
       }
 
   -- after a turn, or where it was refused
-  pub kept_after : (ws ws' : List ℕ) (vs : List (View P)) (id : ℕ) (v v' : View P) (s : Start) (r : Result (Unit {0}) AllocError) → IsKept Holds (state_of g ws vs) → slice_get vs id ≡ Some v → IsWide g s → t.MayBegin g id s → made_count v < most_puts
+  pub kept_after : (ws ws' : List ℕ) (vs : List (View P)) (id : ℕ) (v v' : View P) (s : Start) (r : Result (Unit {0}) AllocError) → IsKept Holds (state_of g ws vs) → slice_get vs id ≡ Some v → IsWide g s → t.MayBegin g id s → made_count v < most_puts g
       → OnOk r (turned t g ws v s ≡ record { words = ws'; view = v' }) → OnErr r ((ws' ≡ ws) × (v' ≡ v)) → IsKept Holds (state_of g ws' (slice_set vs id v'))
   kept_after ws ws' vs id v v' s (Ok x) k at wide may room ok err = kept_turn ws vs id v s record { words = ws'; view = v' } k at wide may room ok
   kept_after ws ws' vs id v v' s (Err x) k at wide may room ok err =

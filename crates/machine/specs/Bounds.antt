@@ -19,7 +19,8 @@ Leads rank of_phase of_answer high most (Next p) = (rank p < high) × (of_phase 
 Leads rank of_phase of_answer high most (Done given) = (1 ≤ high) × (of_answer given ≡ most)
 
 -- the rank of a phase falls at each step, and begins at no more than the bound of its call
-pub record IsBounded {P : Type 0} (t : Table P) (of_phase : Grid → P → ℕ) (of_answer : Grid → Answer → ℕ) : Type 0 where
+pub record IsBounded {P : Type 0} (t : Table P) (of_phase : Grid → P → ℕ)
+    (of_answer : Grid → Answer → ℕ) : Type 0 where
   pub first_put : (g : Grid) → t.rank g t.first_put ≤ of_phase g t.first_put
   pub first_take : (g : Grid) (taken : List Placed)
       → t.rank g (t.first_take g taken) ≤ of_phase g (t.first_take g taken)

@@ -2,9 +2,8 @@
 use Rattle.std.specs.Prelude.{◌≡◌, ℕ, ◌<◌, ◌≤◌, List, Some, None, length, slice_get, slice_set, replicate}
 use Rattle.std.specs.List.{sum_by}
 use Rattle.cursor_word.specs.Shape.{Grid, IsWithinLimits}
-use Rattle.cursor_word.specs.Cursor.{place_span}
+use Rattle.cursor_word.specs.Cursor.{most_puts, place_span}
 use Rattle.cursor_word.specs.Layout.{word_count}
-use Rattle.rail.specs.Rail.{most_puts}
 use Rattle.rail.specs.declared.answer.Answer.TheVariants as answer
 use Rattle.rail.specs.declared.answer.Take.TheVariants as take
 use Rattle.machine.specs.declared.op.After.{After}
@@ -28,7 +27,8 @@ IsRead g follows read = Unit {0}
 
 -- what a step needs: a phase in range, which finds a value in range, an entry of the right width,
 -- and the words read where it hands them out
-pub record CanStep {P : Type 0} (t : Table P) (g : Grid) (ws : List ℕ) (v : View P) (p : P) : Type 0 where
+pub record CanStep {P : Type 0} (t : Table P) (g : Grid) (ws : List ℕ) (v : View P) (p : P)
+    : Type 0 where
   pub range : t.IsInRange g p
   pub found : t.FindsFit p (finds t g ws v p)
   pub wide : length v.entry ≡ g.width
@@ -38,27 +38,31 @@ pub record CanStep {P : Type 0} (t : Table P) (g : Grid) (ws : List ℕ) (v : Vi
 abbrev pub Fact : Type 0 → Type 1
 Fact P = Grid → List ℕ → List (View P) → Type 0
 
--- The fact is an invariant of the machine: it holds at the start, a call that begins keeps it, so does each step,
--- and where it holds each step can be done. Steps are asked about only where few entries are made.
+-- The fact is an invariant of the machine: it holds at the start, a call that begins keeps it,
+-- so does each step, and where it holds each step can be done. Steps are asked about only where
+-- the queue has room for all entries that are made.
 pub record IsInvariant {P : Type 0} (t : Table P) (Holds : Fact P) : Type 0 where
-  pub starts : (g : Grid) → IsWithinLimits g → Holds g (start_words g) (replicate g.seats (resting P g))
+  pub starts : (g : Grid) → IsWithinLimits g
+      → Holds g (start_words g) (replicate g.seats (resting P g))
   pub begins : (g : Grid) (ws : List ℕ) (vs : List (View P)) (id : ℕ) (v : View P) (s : Start)
       → IsWithinLimits g → Holds g ws vs
       → slice_get vs id ≡ Some v → v.phase ≡ None → IsWide g s → t.MayBegin g id s
       → Holds g ws (slice_set vs id (begun t g v None s))
   pub steps : (g : Grid) (ws : List ℕ) (vs : List (View P)) (id : ℕ) (v : View P) (p : P)
-      → IsWithinLimits g → Holds g ws vs → made_total vs < place_span
+      → IsWithinLimits g → Holds g ws vs → made_total vs ≤ place_span g
       → slice_get vs id ≡ Some v → v.phase ≡ Some p
       → Holds g (words_after t g ws v p) (slice_set vs id (view_after t g ws v p))
   pub can_step : (g : Grid) (ws : List ℕ) (vs : List (View P)) (id : ℕ) (v : View P) (p : P)
-      → IsWithinLimits g → Holds g ws vs → made_total vs < place_span
+      → IsWithinLimits g → Holds g ws vs → made_total vs ≤ place_span g
       → slice_get vs id ≡ Some v → v.phase ≡ Some p
       → CanStep t g ws v p
 
--- what each state that the machine reaches keeps: the invariant, all words, a view for each seat, and not too many entries
+-- what each state that the machine reaches keeps: the invariant, all words, a view for each seat,
+-- and no more entries of a seat than it may put
 pub record IsKept {P : Type 0} (Holds : Fact P) (s : ShapedState P) : Type 0 where
   pub limits : IsWithinLimits s.shape
   pub holds : Holds s.shape s.state.words s.state.views
   pub long : length s.state.words ≡ word_count s.shape
   pub all : length s.state.views ≡ s.shape.seats
-  pub few : (j : ℕ) (u : View P) → slice_get s.state.views j ≡ Some u → length u.made ≤ most_puts
+  pub few : (j : ℕ) (u : View P) → slice_get s.state.views j ≡ Some u
+      → length u.made ≤ most_puts s.shape

@@ -69,13 +69,15 @@ module _ {P : Type 0} (t : Table P) (g : Grid) where
   and_step ws n v None steps = steps
   and_step ws n v (Some p) steps = steps ++ taken_step v.entry n p (finds t g ws v p) ∷ []
 
-  abbrev pub with_turn : List ℕ → ℕ → Start → Option (View P) → List (CallStep P) → List (CallStep P)
+  abbrev pub with_turn :
+      List ℕ → ℕ → Start → Option (View P) → List (CallStep P) → List (CallStep P)
   with_turn ws n s None steps = steps
   with_turn ws n s (Some v) steps =
       let turns : View P = begun t g v v.phase s in
       and_step ws n turns turns.phase (steps_before v.phase s steps)
 
-  abbrev pub with_event : MachineState P → ℕ → ℕ → Option Event → List (CallStep P) → List (CallStep P)
+  abbrev pub with_event :
+      MachineState P → ℕ → ℕ → Option Event → List (CallStep P) → List (CallStep P)
   with_event w seat n None steps = steps
   with_event w seat n (Some e) steps =
       if e.seat == seat then with_turn w.words n e.start (slice_get w.views seat) steps else steps

@@ -34,9 +34,9 @@ pub record ShapedState (P : Type 0) : Type 0 where
   pub shape : Grid
   pub state : MachineState P
 
--- What a step leaves in its seat, by what follows it. A put that answers Ok adds the entry in hand to what the seat has
--- made, and a take that answers Ok the words that it read to what the seat has taken; a step that answers puts the seat
--- at rest.
+-- What a step leaves in its seat, by what follows it: a put that answers Ok adds the entry in hand
+-- to what the seat has made, a take that answers Ok adds the words that it read to what the seat
+-- has taken, and a step that answers puts the seat at rest.
 module _ {P : Type 0} where
   abbrev pub made_after : List Placed → List ℕ → After P → List Placed
   made_after made entry (Done (answer.Put (put.Ok place))) = made ++ placed place entry ∷ []

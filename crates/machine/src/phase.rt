@@ -9,7 +9,8 @@ use crate::op::{After, Op};
 use cursor_word::Shape;
 use rail::Batch;
 
-/// Where a call stands. The machine's table says what its step is and what follows it, and that is what the code computes.
+/// Where a call stands. The machine's table says what its step is and what follows it, and that is
+/// what the code computes.
 pub trait Phase: Copy {
     // The table of the machine.
     ghost table: { Table Self };

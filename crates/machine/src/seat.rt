@@ -124,7 +124,8 @@ impl<P: Phase> Seat<P> {
         entry: Entry,
         old: u64,
     ) -> Result<(), AllocError>
-        requires phase { (begun P.table shape.now self.old self.old.phase start.now).phase ≡ Some phase.now }
+        requires phase { (begun P.table shape.now self.old self.old.phase start.now).phase
+            ≡ Some phase.now }
         requires entry { (begun P.table shape.now self.old self.old.phase start.now).entry ≡ entry }
         requires width { length entry ≡ shape.now.width }
         requires range { P.table.IsInRange shape.now phase.now }

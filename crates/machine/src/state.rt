@@ -1,6 +1,6 @@
 ghost use Rattle.std.specs.Prelude.{◌≡◌, ℕ, ◌<◌, ◌↔◌, IsNone, IfSome, IfOk, IsTrue, Option, Some, None, OnOk, OnErr, length, map, replicate, slice_index};
 ghost use Rattle.std.specs.List.{AllByRecursion};
-ghost use Rattle.rail.specs.Rail.{most_puts};
+ghost use Rattle.cursor_word.specs.Cursor.{most_puts};
 ghost use Rattle.cursor_word.specs.Layout.{word_count};
 ghost use Rattle.machine.specs.Steps.{Suits, begun, is_mid_call, resting, run, start_state, start_words, step, turned, view_of};
 ghost use Rattle.machine.specs.Invariant.{CanStep};
@@ -13,7 +13,8 @@ use rail::{Answer, Batch};
 use std::alloc::{AllocError, Global};
 use std::marker::Model;
 
-/// The words and the seats of a machine. Its steps are done one at a time, in any order of the seats.
+/// The words and the seats of a machine. Its steps are done one at a time, in any order of the
+/// seats.
 #[derive(Drop)]
 pub struct State<P: Phase> {
     shape: Shape,
@@ -41,7 +42,8 @@ impl<P: Phase> Model for State<P> {
 impl<P: Phase> State<P> {
     /// The words at their start, and all seats at rest.
     pub fn new(alloc: Global, shape: Shape) -> Result<State<P>, AllocError>
-        ensures start { IfOk result (λ state. state ≡ record { shape = shape; state = start_state P shape }) }
+        ensures start { IfOk result (λ state. state
+            ≡ record { shape = shape; state = start_state P shape }) }
     {
         P::keeps();
         let _blocks = shape.blocks();
@@ -57,9 +59,10 @@ impl<P: Phase> State<P> {
     /// One event. Memory is taken before the step.
     pub fn step(&mut self, event: &Event) -> Result<(), AllocError>
         requires suits { Suits P.table self.old.shape event.now }
-        requires room { length (view_of self.old event.now.seat).made < most_puts }
+        requires room { length (view_of self.old event.now.seat).made < most_puts self.old.shape }
         ensures shape { self.new.shape ≡ self.old.shape }
-        ensures step { OnOk result (self.new.state ≡ step P.table self.old.shape self.old.state event.now) }
+        ensures step { OnOk result (self.new.state
+            ≡ step P.table self.old.shape self.old.state event.now) }
         ensures refused { OnErr result (self.new ≡ self.old) }
     {
         P::keeps();
@@ -108,7 +111,8 @@ impl<P: Phase> State<P> {
         self.seats[seat as usize].taken()
     }
 
-    /// What the steps of the seat's present or last call found, in order; of a store the value that it wrote.
+    /// What the steps of the seat's present or last call found, in order; of a store the value that
+    /// it wrote.
     pub fn trail(&self, seat: u64) -> &[u64]
         requires { seat < self.now.shape.seats }
         ensures { result.now ≡ (view_of self.now seat).trail }
@@ -120,7 +124,7 @@ impl<P: Phase> State<P> {
 /// The state after a schedule: its events, done in order from the start.
 pub fn run<P: Phase>(alloc: Global, shape: Shape, events: &[Event]) -> Result<State<P>, AllocError>
     requires suits { AllByRecursion (Suits P.table shape) events.now }
-    requires few { length events.now < most_puts }
+    requires few { length events.now < most_puts shape }
     ensures state { IfOk result (λ s. s ≡ record {
       shape = shape;
       state = run P.table shape (start_state P shape) events.now;

@@ -1,7 +1,7 @@
 use Rattle.std.proofs.Common.{◌≡◌, ℕ, ◌+◌, ◌<◌, List, [], ◌∷◌, ◌++◌, length, take, refl, sym, ap, ◌∙◌, subst}
 use Rattle.std.proofs.lemmas.Option.{slice_get_read}
 use Rattle.std.proofs.lemmas.List.{take_more}
-use Rattle.rail.specs.Rail.{most_puts}
+use Rattle.cursor_word.specs.Cursor.{most_puts}
 use Rattle.machine.specs.declared.event.Event.{Event}
 use Rattle.machine.specs.Steps.{Suits, run, start_state, step, view_of}
 use Rattle.machine.specs.Invariant.{made_count}
@@ -17,7 +17,7 @@ step-requires g c =
     let was = sym c.loop-event.invariant in
     record {
       suits = subst (λ s. Suits g.P.Phase.table s.shape x) was (all_at (Suits g.P.Phase.table c.args.shape) c.args.events.now i x c.requires.suits (slice_get_read c.args.events.now (length c.args.events.now) i x refl c.loop-event-test.true c.event-item.is));
-      room = subst (λ s. made_count (view_of s x.seat) < most_puts) was (made_below g.P.Phase.table c.args.shape c.args.events.now i x.seat c.requires.few);
+      room = subst (λ s. made_count (view_of s x.seat) < most_puts s.shape) was (made_below g.P.Phase.table c.args.shape c.args.events.now i x.seat c.requires.few);
     }
 
 pub loop-event-preserved : goal.loop-event-preserved

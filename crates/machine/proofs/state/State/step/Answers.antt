@@ -1,6 +1,6 @@
 use Rattle.std.proofs.Common.{◌≡◌, ◌<◌, sym, subst}
 use Rattle.std.specs.Prelude.{OnErr, OnOk, slice_set}
-use Rattle.rail.specs.Rail.{most_puts}
+use Rattle.cursor_word.specs.Cursor.{most_puts}
 use Rattle.machine.specs.declared.event.Event.{Event}
 use Rattle.machine.specs.Steps.{MachineState, Suits, step, view_of}
 use Rattle.machine.specs.Invariant.{made_count}
@@ -24,9 +24,9 @@ invariant_of-self g c =
     let e : Event = c.args.event.now in
     let suits : Suits g.P.Phase.table i.shape e = subst (λ s. Suits g.P.Phase.table s.shape e) (sym c.self.view_is) c.requires.suits in
     let at = seat_is g.P.Phase.Holds i.shape i.words.items i.seats.items e.seat c.index_mut-seat.result.now c.self.invariant suits.seat c.index_mut-seat.ensures.value in
-    let room = subst (λ s. made_count (view_of s e.seat) < most_puts) (sym c.self.view_is) c.requires.room in
+    let room = subst (λ s. made_count (view_of s e.seat) < most_puts s.shape) (sym c.self.view_is) c.requires.room in
     kept_after g.P.Phase.table g.P.Phase.Holds c.keeps.ensures i.shape i.words.items c.turn.new.words.items i.seats.items e.seat c.index_mut-seat.result.now c.turn.new.seat e.start c.turn.result c.self.invariant at suits.wide suits.may_begin
-    (subst (λ u. made_count u < most_puts) (view_is (state_of i.shape i.words.items i.seats.items) e.seat c.index_mut-seat.result.now at) room) c.turn.ensures.ok c.turn.ensures.err
+    (subst (λ u. made_count u < most_puts i.shape) (view_is (state_of i.shape i.words.items i.seats.items) e.seat c.index_mut-seat.result.now at) room) c.turn.ensures.ok c.turn.ensures.err
 
 pub returns-clause-step : goal.returns-clause-step
 returns-clause-step g c =
