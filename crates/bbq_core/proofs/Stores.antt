@@ -11,9 +11,9 @@ use Rattle.rail.specs.declared.entry.Placed.{Placed}
 use Rattle.rail.specs.Items.{IsRising, places}
 use Rattle.bbq_core.specs.declared.phase.Phase.{Phase}
 use Rattle.bbq_core.specs.declared.phase.Phase.TheVariants.{Write, Commit}
-use Rattle.bbq_core.specs.declared.view.View.{View}
-use Rattle.bbq_core.specs.declared.op.After.{After}
-use Rattle.bbq_core.specs.declared.op.After.TheVariants.{Next}
+use Rattle.bbq_core.specs.Types.{View}
+use Rattle.bbq_core.specs.Types.{After}
+use Rattle.machine.specs.declared.op.After.TheVariants.{Next}
 use Rattle.bbq_core.specs.Machine.{phase_after, view_after, words_after}
 use Rattle.bbq_core.specs.Blocks.{Newest, allocated_word, committed_word, consumed_word, reserved_word}
 use Rattle.bbq_core.specs.Counts.{IsPutting, adds_in, claimed, claims, held, makes, one_at, one_below, times}
