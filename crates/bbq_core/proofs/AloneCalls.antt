@@ -1,5 +1,5 @@
 -- A call that is done alone, from its beginning to its answer.
-use Rattle.std.proofs.Common.{◌≡◌, ℕ, ◌<◌, ◌≤◌, List, length, refl, sym, ap, ◌∙◌, inl, inr, ⊎_elim, arith}
+use Rattle.std.proofs.Common.{◌≡◌, ℕ, ◌≤◌, List, length, refl, sym, ap, ◌∙◌, inl, inr, ⊎_elim, arith}
 use Rattle.std.specs.Prelude.{Option, Some, None, slice_get, slice_set}
 use Rattle.std.specs.List.{sum_by}
 use Rattle.cursor_word.specs.Shape.{Grid, IsWithinLimits}
@@ -12,11 +12,12 @@ use Rattle.bbq_core.specs.Types.{View}
 use Rattle.bbq_core.specs.PutSteps.{first_put}
 use Rattle.bbq_core.specs.TakeSteps.{first_take}
 use Rattle.bbq_core.specs.Machine.{begun}
-use Rattle.bbq_core.specs.Counts.{made_count, taken_count}
+use Rattle.bbq_core.specs.Counts.{taken_count}
+use Rattle.machine.specs.Invariant.{made_count}
 use Rattle.bbq_core.specs.Sound.{IsSoundAt}
 use Rattle.bbq_core.specs.Manned.{IsManned, in_all, opens_allocated, opens_reserved, raises_consumer, raises_producer}
 use Rattle.bbq_core.specs.Alone.{IsAlone, IsStill, LoneKnows}
-use Rattle.bbq_core.proofs.Views.{get_set_other, sum_set}
+use Rattle.machine.proofs.Lists.{get_set_other, sum_set}
 use Rattle.bbq_core.proofs.Keeps.{opened_few}
 use Rattle.bbq_core.proofs.Runs.{begins_put, begins_take}
 use Rattle.bbq_core.proofs.LoneSteps.{Goes, IsHere}

@@ -13,7 +13,7 @@ use Rattle.bbq_core.specs.Counts.{makes, one_below, taken_count, takes}
 use Rattle.bbq_core.specs.Alone.{IsStill}
 use Rattle.bbq_core.specs.declared.phase.Phase.{Phase}
 use Rattle.machine.proofs.Turns.{start_total}
-use Rattle.bbq_core.proofs.Views.{get_replicate}
+use Rattle.machine.proofs.Lists.{get_replicate}
 use Rattle.bbq_core.proofs.Facts.{none_from}
 use Rattle.bbq_core.proofs.TakeFacts.{reserved_made}
 use Rattle.bbq_core.proofs.Lone.{allocated_is, allocated_number, committed_is, consumed_is, consumer_is, made_is, only_none, producer_is, reserved_is, reserved_number, taken_is}

@@ -1,31 +1,23 @@
 -- At each moment of a schedule the invariant holds, with who is at work.
-use Rattle.std.proofs.Common.{◌≡◌, ℕ, zero, suc, ◌+◌, ◌-◌, ◌*◌, ◌^◌, ◌<◌, ◌≤◌, List, [], ◌∷◌, length, take, refl, sym, ap, ◌∙◌, subst, inl, ⊎_elim, arith}
-use Rattle.std.specs.Prelude.{Option, Some, None, slice_get, slice_set, slice_index}
-use Rattle.std.specs.List.{AllByRecursion, sum_by}
+use Rattle.std.proofs.Common.{◌≡◌, ℕ, ◌+◌, ◌-◌, ◌*◌, ◌≤◌, List, refl, sym, ap, ◌∙◌, inl, ⊎_elim, arith}
+use Rattle.std.specs.Prelude.{Some, slice_get, slice_set, slice_index}
+use Rattle.std.specs.List.{sum_by}
 use Rattle.std.proofs.lemmas.Bool.{cases_lt}
 use Rattle.std.proofs.lemmas.List.Folds.{sum_by-replicate}
 use Rattle.std.proofs.Math.Nat.{mod_self, mod-eq_of_lt, mul-le-mul_left}
 use Rattle.cursor_word.specs.Shape.{Grid, IsWithinLimits}
-use Rattle.cursor_word.specs.Cursor.{most_block, most_puts, place_span}
-use Rattle.cursor_word.proofs.Places.{most_puts_to}
+use Rattle.cursor_word.specs.Cursor.{place_span}
 use Rattle.bbq_core.specs.declared.phase.Phase.{Phase}
-use Rattle.machine.specs.declared.event.Event.{Event}
-use Rattle.machine.specs.declared.event.Start.{Start}
-use Rattle.machine.specs.declared.event.Start.TheVariants as start
 use Rattle.bbq_core.specs.Types.{View}
-use Rattle.bbq_core.specs.PutSteps.{first_put}
-use Rattle.bbq_core.specs.TakeSteps.{first_take}
 use Rattle.bbq_core.specs.Machine.{resting, start_state, view_after, words_after}
 use Rattle.bbq_core.specs.Blocks.{consumed_word}
-use Rattle.bbq_core.specs.Counts.{claim_count, fetch_count, made_count, made_total}
-use Rattle.bbq_core.specs.Sound.{IsSound, IsSoundAt}
+use Rattle.bbq_core.specs.Counts.{claim_count, fetch_count}
+use Rattle.machine.specs.Invariant.{made_total}
+use Rattle.bbq_core.specs.Sound.{IsSound}
 use Rattle.bbq_core.specs.Manned.{IsAttended}
-use Rattle.machine.specs.Moments.{moment}
-use Rattle.bbq_core.proofs.Views.{get_set_same, set_again, set_twice, sum_set}
 use Rattle.bbq_core.proofs.Keeps.{opened_few}
 use Rattle.bbq_core.proofs.Runs.{start_sound, starts_at}
 use Rattle.bbq_core.proofs.Attends.{attended, attends_at}
-use Rattle.bbq_core.proofs.AloneCalls.{begun_manned}
 
 -- a step keeps the invariant, with who is at work
 pub attends : (g : Grid) (ws : List ℕ) (vs : List View) (id : ℕ) (v : View) (p : Phase) → IsWithinLimits g → IsAttended g ws vs → made_total vs ≤ place_span g → slice_get vs id ≡ Some v → v.phase ≡ Some p

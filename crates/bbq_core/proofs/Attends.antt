@@ -1,5 +1,5 @@
 -- Each step keeps the invariant with who is at work.
-use Rattle.std.proofs.Common.{◌≡◌, ℕ, ◌+◌, ◌*◌, ◌%◌, ◌^◌, ◌<◌, ◌≤◌, ◌≢◌, max, List, length, refl, ap, ◌∙◌, subst, ⊎_elim, arith}
+use Rattle.std.proofs.Common.{◌≡◌, ℕ, ◌+◌, ◌*◌, ◌%◌, ◌<◌, ◌≤◌, ◌≢◌, max, List, length, refl, ap, ◌∙◌, subst, ⊎_elim, arith}
 use Rattle.std.specs.Prelude.{Some, slice_get, slice_set, slice_index}
 use Rattle.std.proofs.lemmas.List.{get_or-set_same, get_or-set_other}
 use Rattle.std.proofs.lemmas.Bool.{cases_eq, cases_lt}
@@ -18,7 +18,7 @@ use Rattle.bbq_core.specs.Manned.{IsAttended, IsManned}
 use Rattle.bbq_core.proofs.Manned.{IsIdle, idle_kept, manned_OpenA, manned_OpenM, manned_OpenR, manned_OpenX, manned_RaiseC, manned_RaiseP, words_up}
 use Rattle.bbq_core.proofs.Facts.{IsPhysical, committed_below, filled_opened, physical}
 use Rattle.bbq_core.proofs.TakeFacts.{reserved_below}
-use Rattle.bbq_core.proofs.TakeRaises.{consumed_below}
+use Rattle.bbq_core.proofs.TakeRaises.{consumed_below, keeps_OpenR, keeps_RaiseC}
 use Rattle.bbq_core.proofs.Quiet.{fits_at, keeps_HeadP, keeps_SeeR}
 use Rattle.bbq_core.proofs.TakeFrames.{knows_at}
 use Rattle.bbq_core.proofs.Loads.{keeps_SeeA, keeps_SeeX}
@@ -31,7 +31,6 @@ use Rattle.bbq_core.proofs.TakeLoads.{keeps_HeadC, keeps_NextCom, keeps_SeeAll, 
 use Rattle.bbq_core.proofs.Reserves.{keeps_Reserve}
 use Rattle.bbq_core.proofs.Consumes.{keeps_Consume, keeps_Read}
 use Rattle.bbq_core.proofs.TakeOpens.{keeps_OpenX}
-use Rattle.bbq_core.proofs.TakeRaises.{keeps_OpenR, keeps_RaiseC}
 
 pub attended : (g : Grid) (K J a t : ℕ) (ws : List ℕ) (vs : List View) → IsSoundAt g K J a t ws vs → IsManned g K J ws vs → IsAttended g ws vs
 attended g K J a t ws vs s m = record { opened = K; passed = J; allocated = a; reserved = t; sound = s; manned = m }

@@ -1,33 +1,30 @@
 -- A number is drawn from the allocated cursor: the next place, or none where the block was filled.
 use Rattle.std.proofs.Common.{◌≡◌, ℕ, ◌+◌, ◌*◌, ◌/◌, ◌%◌, ◌^◌, ◌<◌, ◌≤◌, ◌≢◌, ◌⊎◌, min, List, [], ◌∷◌, ◌++◌, length, refl, sym, ap, ◌∙◌, subst, inl, inr, ⊎_elim, arith}
 use Rattle.std.specs.Prelude.{Some, slice_get, slice_set, slice_index, if◌then◌else◌, ◌==◌}
-use Rattle.std.proofs.lemmas.List.{length-set, get_or-set_same, get_or-set_other, append-nil}
+use Rattle.std.proofs.lemmas.List.{length-set, get_or-set_same, get_or-set_other, append-nil, length-append}
 use Rattle.std.proofs.lemmas.Bool.{cases_eq}
 use Rattle.std.proofs.lemmas.Bool.Decides.{nat_tests}
-use Rattle.std.proofs.lemmas.Nat.{mod_below}
+use Rattle.std.proofs.lemmas.Nat.{mod_below, div-mul-add, mod-mul-add}
 use Rattle.cursor_word.specs.Shape.{Grid, IsWithinLimits}
 use Rattle.cursor_word.specs.Cursor.{most_block, offset_span, unpacked}
 use Rattle.cursor_word.specs.declared.cursor.Cursor.{Cursor}
 use Rattle.rail.specs.declared.entry.Placed.{Placed}
 use Rattle.rail.specs.Items.{IsRising, places}
 use Rattle.bbq_core.specs.declared.phase.Phase.TheVariants.{AddA, Write}
-use Rattle.bbq_core.specs.Types.{View}
-use Rattle.bbq_core.specs.Types.{After}
+use Rattle.bbq_core.specs.Types.{View, After}
 use Rattle.machine.specs.declared.op.After.TheVariants.{Next}
 use Rattle.bbq_core.specs.PutSteps.{filled}
 use Rattle.bbq_core.specs.Machine.{view_after, words_after}
 use Rattle.bbq_core.specs.Blocks.{Newest, PutWords, allocated_word, committed_word, consumed_word, place, reserved_word}
 use Rattle.bbq_core.specs.Counts.{Counts, adds, adds_in, claim_count, claimed, claims, fetch_count, fetched, fetches, makes, one_at, one_below, takes, times}
 use Rattle.bbq_core.specs.Sound.{IsSoundAt, PutFits}
-use Rattle.bbq_core.proofs.Views.{by_test, rising_push, sum_set, times_push}
+use Rattle.bbq_core.proofs.Views.{by_test, rising_push, times_push}
+use Rattle.machine.proofs.Lists.{sum_set}
 use Rattle.cursor_word.proofs.Blocks.{latest_is, same_near}
-use Rattle.bbq_core.proofs.Frames.{adds_bound, after_put, fetched_idle, made_same, ended, fits_grows, sum_same, takes_same, upto_same}
+use Rattle.bbq_core.proofs.Frames.{adds_bound, after_put, fetched_idle, made_same, ended, fits_grows, sum_same, takes_same, upto_same, filled_grows}
 use Rattle.bbq_core.proofs.Quiet.{fits_at, holds_none, is_putting, quiet}
 use Rattle.bbq_core.proofs.Facts.{IsFound, allocated_below, found, found_filled, physical}
-use Rattle.std.proofs.lemmas.Nat.{div-mul-add, mod-mul-add}
-use Rattle.std.proofs.lemmas.List.{length-append}
 use Rattle.std.specs.List.{sum_by}
-use Rattle.bbq_core.proofs.Frames.{filled_grows}
 use Rattle.bbq_core.proofs.Loads.{filled_next, made_below}
 
 -- a cursor's word, and one more

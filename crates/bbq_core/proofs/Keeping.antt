@@ -1,6 +1,6 @@
 -- The machine keeps its invariant: what the generic schedules ask for.
-use Rattle.std.proofs.Common.{◌≡◌, ℕ, ◌+◌, ◌%◌, ◌/◌, ◌<◌, ◌≤◌, List, Bool, true, false, length, refl, sym, ap, ◌∙◌, subst}
-use Rattle.std.specs.Prelude.{Option, Some, None, slice_get, slice_set, slice_index, if◌then◌else◌, ◌==◌, ◌&&◌, nat_lt, nat_le}
+use Rattle.std.proofs.Common.{◌≡◌, ℕ, ◌+◌, ◌%◌, ◌/◌, ◌≤◌, List, Bool, true, false, refl, sym, subst}
+use Rattle.std.specs.Prelude.{Some, None, slice_get, slice_set, if◌then◌else◌, ◌==◌, nat_lt, nat_le}
 use Rattle.cursor_word.specs.Shape.{Grid, IsWithinLimits}
 use Rattle.cursor_word.specs.Cursor.{offset_span, packed, place_span, unpacked}
 use Rattle.rail.specs.declared.entry.Placed.{Placed}
@@ -22,9 +22,9 @@ use Rattle.bbq_core.specs.declared.take_phase.TakePhase.TheVariants.{HeadC, SeeR
 use Rattle.bbq_core.specs.PutSteps.{after, older_consumed}
 use Rattle.bbq_core.specs.TakeSteps.{is_same}
 use Rattle.bbq_core.specs.Table.{MayBegin, table}
-use Rattle.bbq_core.specs.Sound.{CanStep, IsRead, IsSoundAt}
+use Rattle.bbq_core.specs.Sound.{IsRead}
 use Rattle.bbq_core.specs.Manned.{IsAttended}
-use Rattle.bbq_core.specs.Machine.{begun, made_after, read_after, seen, taken_after, view_after, words_after}
+use Rattle.bbq_core.specs.Machine.{begun, made_after, read_after, seen, taken_after, words_after}
 use Rattle.bbq_core.proofs.Runs.{begins_put, begins_take}
 use Rattle.bbq_core.proofs.Ready.{can_step}
 use Rattle.bbq_core.proofs.Attends.{attended}

@@ -1,5 +1,5 @@
 -- Each step keeps the invariant, while the places are few.
-use Rattle.std.proofs.Common.{◌≡◌, ℕ, ◌+◌, ◌-◌, ◌*◌, ◌^◌, ◌<◌, ◌≤◌, List, [], ◌∷◌, length, ⊎_elim, arith}
+use Rattle.std.proofs.Common.{◌≡◌, ℕ, ◌+◌, ◌-◌, ◌*◌, ◌≤◌, List, [], ◌∷◌, length, ⊎_elim, arith}
 use Rattle.std.specs.Prelude.{Option, Some, slice_get, slice_set}
 use Rattle.std.specs.List.{sum_by}
 use Rattle.std.proofs.lemmas.List.{length-append, length-map}
@@ -15,7 +15,8 @@ use Rattle.bbq_core.specs.declared.take_phase.TakePhase.TheVariants.{HeadC, SeeR
 use Rattle.bbq_core.specs.Types.{View}
 use Rattle.bbq_core.specs.Machine.{view_after, words_after}
 use Rattle.bbq_core.specs.Blocks.{place}
-use Rattle.bbq_core.specs.Counts.{claim_count, held, made_count, made_total}
+use Rattle.bbq_core.specs.Counts.{claim_count, held}
+use Rattle.machine.specs.Invariant.{made_count, made_total}
 use Rattle.bbq_core.specs.Sound.{IsSound, IsSoundAt}
 use Rattle.bbq_core.proofs.Quiet.{keeps_HeadP, keeps_SeeR}
 use Rattle.bbq_core.proofs.Loads.{keeps_SeeA, keeps_SeeX}

@@ -1,6 +1,6 @@
 -- A call that no other seat's call overlaps answers as one thread is answered.
-use Rattle.std.proofs.Common.{◌≡◌, ◌≢◌, ℕ, suc, ◌<◌, ◌≤◌, ◌⊎◌, List, length, refl, sym, ap, ◌∙◌, subst, inl, inr, ⊎_elim, arith}
-use Rattle.std.specs.Prelude.{Option, Some, None, slice_get, slice_set, slice_index, if◌then◌else◌}
+use Rattle.std.proofs.Common.{◌≡◌, ◌≢◌, ℕ, suc, ◌<◌, ◌≤◌, ◌⊎◌, List, length, refl, sym, ap, ◌∙◌, subst, inl, inr}
+use Rattle.std.specs.Prelude.{Option, Some, None, slice_get, slice_set, if◌then◌else◌}
 use Rattle.std.specs.List.{AllByRecursion}
 use Rattle.cursor_word.specs.Shape.{Grid, IsWithinLimits}
 use Rattle.cursor_word.specs.Cursor.{most_puts, place_span}
@@ -18,7 +18,6 @@ use Rattle.machine.specs.Steps.{IsWide, Suits, finds}
 use Rattle.machine.specs.Moments.{BeginsCall, EndsAt, IsCall, IsDoneAlone, IsMidCall, IsOverlapped, IsUnmixed, answer_in, moment, phase_in, phase_of}
 use Rattle.machine.proofs.Lists.{all_at, get_set_same, set_twice}
 use Rattle.machine.proofs.Runs.{moment_total}
-use Rattle.machine.proofs.Schedules.{other_turn}
 use Rattle.machine.proofs.Calls.{idle_turn, rest_at, unmixed, view_at}
 use Rattle.machine.proofs.Lone.{Comes, GoesOn, IsLoneRule, all_rest, answers_alone, begins_mid, overlaps}
 use Rattle.bbq_core.specs.Types.{After, MachineState, View}
@@ -26,7 +25,8 @@ use Rattle.bbq_core.specs.Table.{table}
 use Rattle.bbq_core.specs.declared.phase.Phase.{Phase}
 use Rattle.bbq_core.specs.PutSteps.{after, first_put}
 use Rattle.bbq_core.specs.TakeSteps.{first_take}
-use Rattle.bbq_core.specs.Counts.{made_total, taken_total}
+use Rattle.bbq_core.specs.Counts.{taken_total}
+use Rattle.machine.specs.Invariant.{made_total}
 use Rattle.bbq_core.specs.Alone.{AnswersAlone, GoesOnAlone, IsAlone, IsStill}
 use Rattle.bbq_core.specs.Rest.{AnsweredAsOne, AnswersAsOne}
 use Rattle.bbq_core.specs.Machine.{begun, view_after, words_after}

@@ -20,7 +20,7 @@ use Rattle.bbq_core.specs.Counts.{one_at}
 use Rattle.bbq_core.specs.Sound.{IsSoundAt}
 use Rattle.bbq_core.specs.Manned.{IsManned, in_all, opens_allocated, opens_reserved, raises_consumer, raises_producer}
 use Rattle.bbq_core.proofs.Raises.{raised}
-use Rattle.bbq_core.proofs.Views.{get_set_same, one_le_sum, sum_set}
+use Rattle.machine.proofs.Lists.{get_set_same, one_le_sum, sum_set}
 use Rattle.bbq_core.proofs.Facts.{allocated_below, committed_below, physical}
 use Rattle.bbq_core.proofs.TakeRaises.{consumed_below}
 

@@ -9,9 +9,8 @@ use Rattle.rail.specs.declared.answer.Answer.TheVariants as answer
 use Rattle.rail.specs.Rail.{Puts, Takes}
 use Rattle.bbq_core.specs.declared.phase.Phase.{Phase}
 use Rattle.machine.specs.declared.op.After.TheVariants.{Done}
-use Rattle.bbq_core.specs.Types.{View}
+use Rattle.bbq_core.specs.Types.{View, MachineState}
 use Rattle.bbq_core.specs.Machine.{made_after, taken_after}
-use Rattle.bbq_core.specs.Types.{MachineState}
 use Rattle.bbq_core.proofs.Outcomes.{Tells}
 use Rattle.bbq_core.proofs.Trails.{TrailShows, busy_told}
 

@@ -11,7 +11,7 @@ use Rattle.bbq_core.specs.declared.take_phase.TakePhase.TheVariants.{HeadC, SeeR
 use Rattle.bbq_core.specs.Types.{View}
 use Rattle.bbq_core.specs.TakeSteps.{IsTurn}
 use Rattle.bbq_core.specs.Blocks.{allocated_word, committed_word, consumed_word, reserved_word}
-use Rattle.bbq_core.specs.Counts.{made_total}
+use Rattle.machine.specs.Invariant.{made_total}
 use Rattle.bbq_core.specs.Sound.{CanStep, IsCurrent, IsFilled, IsMade, IsSound, IsSoundAt, PutKnows, TakeTurn, TakerKnows, TurnFits}
 use Rattle.bbq_core.proofs.Facts.{filled_opened, physical}
 use Rattle.bbq_core.proofs.TakeFacts.{reserved_below}

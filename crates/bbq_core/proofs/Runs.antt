@@ -1,44 +1,32 @@
 -- Calls that begin keep the invariant, and it holds at the start.
-use Rattle.std.proofs.Common.{◌≡◌, ℕ, zero, suc, ◌+◌, ◌-◌, ◌*◌, ◌/◌, ◌%◌, ◌<◌, ◌≤◌, List, [], ◌∷◌, ◌++◌, length, refl, sym, ap, ◌∙◌, subst, inl, ⊎_elim, arith}
+use Rattle.std.proofs.Common.{◌≡◌, ℕ, ◌+◌, ◌-◌, ◌*◌, ◌/◌, ◌%◌, ◌<◌, ◌≤◌, List, ◌++◌, length, refl, sym, ap, ◌∙◌, subst, inl, ⊎_elim, arith}
 use Rattle.std.specs.Prelude.{Option, Some, None, slice_get, slice_set, slice_index}
 use Rattle.std.proofs.lemmas.Bool.{cases_lt}
 use Rattle.std.proofs.lemmas.Bool.Decides.{nat_tests}
-use Rattle.std.proofs.lemmas.Nat.{mod_below}
+use Rattle.std.proofs.lemmas.Nat.{mod_below, div-mul-add}
 use Rattle.cursor_word.specs.Shape.{Grid, IsWithinLimits}
-use Rattle.cursor_word.specs.Cursor.{most_puts, offset_span, place_at, place_span}
-use Rattle.cursor_word.specs.Layout.{word_count}
-use Rattle.rail.specs.Items.{IsRising, placed, places}
-use Rattle.rail.specs.declared.entry.Placed.{Placed}
+use Rattle.cursor_word.specs.Cursor.{offset_span}
+use Rattle.cursor_word.specs.Layout.{word_count, start_at, start_cursor}
+use Rattle.rail.specs.Items.{IsRising, places}
 use Rattle.bbq_core.specs.declared.phase.Phase.{Phase}
-use Rattle.bbq_core.specs.declared.phase.Phase.TheVariants.{Commit}
-use Rattle.std.specs.List.{sum_by}
-use Rattle.bbq_core.specs.Types.{View}
+use Rattle.std.specs.List.{sum_by, range_with_len}
+use Rattle.bbq_core.specs.Types.{View, MachineState}
 use Rattle.bbq_core.specs.Blocks.{allocated_word, committed_word, consumed_word, place, reserved_word}
-use Rattle.bbq_core.specs.Counts.{IsPutting, IsTaking, made_count, made_total, adds, adds_in, claim_count, claimed, claims, fetch_count, fetched, fetches, held, makes, one_below, reading, takes}
+use Rattle.bbq_core.specs.Counts.{IsPutting, IsTaking, adds, adds_in, claim_count, claimed, claims, fetch_count, fetched, fetches, held, makes, one_below, reading, takes}
 use Rattle.bbq_core.specs.Sound.{IsSound, IsSoundAt, PutFits, TakeFits}
 use Rattle.bbq_core.specs.Laws.{MadeRises, PlacesAreDense, TakenIsMade, TakenOnce, TakenRises}
 use Rattle.bbq_core.proofs.TakeFrames.{after_taking, claimed_idle}
-use Rattle.bbq_core.proofs.Frames.{counts_quiet, made_same, takes_grow}
+use Rattle.bbq_core.proofs.Frames.{counts_quiet, made_same, takes_grow, after_put, fetched_idle}
 use Rattle.bbq_core.proofs.Facts.{none_from}
-use Rattle.std.proofs.Common.{take}
-use Rattle.std.specs.List.{AllByRecursion, range_with_len}
-use Rattle.std.proofs.lemmas.List.{length-append, length-map, length-replicate}
-use Rattle.std.proofs.lemmas.Nat.{div-mul-add}
+use Rattle.std.proofs.lemmas.List.{length-map, length-replicate}
 use Rattle.std.proofs.lemmas.List.FromFn.{get_or-map-range_with_len, length-range_with_len}
 use Rattle.std.proofs.lemmas.List.Folds.{sum_by-replicate}
 use Rattle.std.proofs.Math.Nat.{mod_self, mod-eq_of_lt}
-use Rattle.cursor_word.specs.Layout.{start_at, start_cursor}
-use Rattle.machine.specs.declared.event.Start.{Start}
 use Rattle.machine.specs.declared.event.Start.TheVariants as start
-use Rattle.machine.specs.declared.event.Event.{Event}
-use Rattle.bbq_core.specs.PutSteps.{first_put}
 use Rattle.bbq_core.specs.Machine.{begun, resting, start_state}
-use Rattle.bbq_core.specs.Types.{MachineState}
-use Rattle.bbq_core.specs.TakeSteps.{first_take}
-use Rattle.bbq_core.proofs.Views.{get_replicate, get_set_same, one_le_sum, rising_front, set_again, set_twice, sum_set}
-use Rattle.bbq_core.proofs.Frames.{after_put, fetched_idle}
+use Rattle.bbq_core.proofs.Views.{rising_front}
+use Rattle.machine.proofs.Lists.{get_replicate}
 use Rattle.bbq_core.proofs.Opens.{upto_none}
-use Rattle.bbq_core.proofs.Keeps.{keeps, sound}
 
 -- a seat at rest begins a put
 pub begins_put : (g : Grid) (K J a t : ℕ) (ws : List ℕ) (vs : List View) (id : ℕ) (v : View) (entry : List ℕ) → IsSoundAt g K J a t ws vs → slice_get vs id ≡ Some v → v.phase ≡ None → length entry ≡ g.width
@@ -172,4 +160,3 @@ taken_rises g w s id v at = rising_front _ (reading g v.phase) ((s.at.takes_each
 
 pub taken_once : (g : Grid) (w : MachineState) → IsSound g w.words w.views → TakenOnce g w.views
 taken_once g w s = record { count = s.reserved; once = s.at.counts.read_once }
-

@@ -1,10 +1,10 @@
 -- No cursor word overflows.
 use Rattle.std.proofs.Common.{ℕ, ◌+◌, ◌/◌, ◌%◌, ◌<◌, ◌≤◌, List, ap, arith}
 use Rattle.cursor_word.specs.Shape.{Grid, IsWithinLimits}
-use Rattle.cursor_word.specs.Cursor.{block_span, offset_span, place_span}
+use Rattle.cursor_word.specs.Cursor.{offset_span, place_span}
 use Rattle.bbq_core.specs.Types.{View}
 use Rattle.bbq_core.specs.Blocks.{TakeWords, allocated_word}
-use Rattle.bbq_core.specs.Counts.{made_total}
+use Rattle.machine.specs.Invariant.{made_total}
 use Rattle.bbq_core.specs.Sound.{IsSound, IsSoundAt}
 use Rattle.bbq_core.specs.Laws.{WordsAreSmall}
 use Rattle.cursor_word.proofs.Blocks.{latest_is}

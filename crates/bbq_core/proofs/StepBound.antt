@@ -1,29 +1,19 @@
 -- A call ends within its bound, since the rank of its phase falls at each step.
-use Rattle.std.proofs.Common.{◌≡◌, ℕ, ◌+◌, ◌-◌, ◌/◌, ◌%◌, ◌<◌, ◌≤◌, List, [], ◌∷◌, length, take, refl, ap, subst, ⊎_elim, arith}
-use Rattle.std.specs.Prelude.{Bool, true, false, Option, Some, None, if◌then◌else◌, slice_get}
-use Rattle.std.specs.List.{AllByRecursion}
-use Rattle.std.proofs.lemmas.List.{length-append}
-use Rattle.cursor_word.specs.Shape.{Grid, IsWithinLimits}
-use Rattle.cursor_word.specs.Cursor.{most_puts, offset_span, packed, place_span, unpacked}
+use Rattle.std.proofs.Common.{◌≡◌, ℕ, ◌+◌, ◌-◌, ◌/◌, ◌%◌, ◌<◌, ◌≤◌, refl, ap, arith}
+use Rattle.std.specs.Prelude.{Bool, true, false, if◌then◌else◌}
+use Rattle.cursor_word.specs.Shape.{Grid}
+use Rattle.cursor_word.specs.Cursor.{offset_span, packed, unpacked}
 use Rattle.cursor_word.specs.declared.cursor.Cursor.{Cursor}
-use Rattle.cursor_word.proofs.Places.{most_puts_to}
 use Rattle.rail.specs.declared.answer.Answer.{Answer}
 use Rattle.bbq_core.specs.declared.phase.Phase.{Phase}
 use Rattle.bbq_core.specs.declared.phase.Phase.TheVariants.{HeadP, SeeA, AddA, Write, Commit, SeeX, SeeR, OpenM, OpenA, RaiseP, Take}
 use Rattle.bbq_core.specs.declared.take_phase.TakePhase.TheVariants.{HeadC, SeeRes, SeeCom, SeeAll, Reserve, Read, Consume, NextCom, OpenX, OpenR, RaiseC}
 use Rattle.bbq_core.specs.Types.{After}
 use Rattle.machine.specs.declared.op.After.TheVariants.{Next, Done}
-use Rattle.machine.specs.declared.event.Start.{Start}
-use Rattle.machine.specs.declared.event.Start.TheVariants as start
-use Rattle.machine.specs.declared.event.Event.{Event}
-use Rattle.bbq_core.specs.Types.{View}
-use Rattle.bbq_core.specs.PutSteps.{IsInRange, after, filled, older_consumed, rank, want}
+use Rattle.bbq_core.specs.PutSteps.{IsInRange, after, filled, older_consumed, rank}
 use Rattle.bbq_core.specs.TakeSteps.{by_turn, is_same, passed}
-use Rattle.machine.specs.Ops.{noted}
-use Rattle.bbq_core.specs.Counts.{made_total}
-use Rattle.bbq_core.specs.Sound.{IsSound}
-use Rattle.bbq_core.specs.Laws.{most_steps, steps_of_answer, steps_of_phase}
-use Rattle.bbq_core.proofs.Views.{by_test_le, get_replicate, get_set}
+use Rattle.bbq_core.specs.Laws.{steps_of_answer, steps_of_phase}
+use Rattle.bbq_core.proofs.Views.{by_test_le}
 use Rattle.machine.specs.Bounds as bounds
 use Rattle.machine.specs.Bounds.{IsBounded}
 use Rattle.bbq_core.specs.Table.{table}

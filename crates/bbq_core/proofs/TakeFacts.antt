@@ -6,23 +6,21 @@ use Rattle.std.proofs.lemmas.Bool.Decides.{nat_tests}
 use Rattle.std.proofs.lemmas.Nat.{mod_below}
 use Rattle.std.proofs.Math.Nat.{mod-mod, mul-le-mul_right}
 use Rattle.cursor_word.specs.Shape.{Grid, most_size}
-use Rattle.cursor_word.specs.Cursor.{offset_span, packed, unpacked}
+use Rattle.cursor_word.specs.Cursor.{offset_span, packed, unpacked, place_at}
 use Rattle.rail.specs.declared.entry.Placed.{Placed}
 use Rattle.rail.specs.Items.{placed, places}
 use Rattle.bbq_core.specs.declared.phase.Phase.{Phase}
 use Rattle.bbq_core.specs.declared.phase.Phase.TheVariants.{Take}
 use Rattle.bbq_core.specs.declared.take_phase.TakePhase.TheVariants.{Read, Consume}
 use Rattle.std.specs.List.{sum_by}
-use Rattle.cursor_word.specs.Cursor.{place_at}
 use Rattle.bbq_core.specs.Types.{View}
 use Rattle.bbq_core.specs.Blocks.{NewestTaken, TakeWords, committed_word, consumed_word, place, reserved_word}
 use Rattle.bbq_core.specs.Counts.{claims, fetches, makes, one_at, one_below, reading, sum_below, takes, times}
 use Rattle.bbq_core.specs.Sound.{IsMade, IsSoundAt, TakerKnows}
-use Rattle.bbq_core.proofs.Views.{one_le_sum}
+use Rattle.machine.proofs.Lists.{one_le_sum}
 use Rattle.cursor_word.proofs.Blocks.{latest, latest_is, same_block, shifted}
-use Rattle.bbq_core.proofs.Facts.{IsPhysical, repacked}
+use Rattle.bbq_core.proofs.Facts.{IsPhysical, repacked, one_in, place_next}
 use Rattle.std.proofs.lemmas.List.Sums.{sum_by-append, sum_by-cons, sum_by-le-sum_by}
-use Rattle.bbq_core.proofs.Facts.{one_in, place_next}
 use Rattle.bbq_core.proofs.Views.{times-cons}
 use Rattle.bbq_core.proofs.Commits.{makes_le}
 use Rattle.bbq_core.proofs.Stores.{counted}
