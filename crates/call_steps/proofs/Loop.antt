@@ -11,17 +11,17 @@ use Rattle.rail.specs.declared.answer.Put.{Put}
 use Rattle.rail.specs.declared.answer.Take.{Take}
 use Rattle.step_log.specs.declared.step.Taken.{Taken}
 use Rattle.step_log.specs.Log.{Keeps, Sitting}
-use Rattle.bbq_core.specs.declared.event.Start.{Start}
-use Rattle.bbq_core.specs.declared.event.Start.TheVariants as start
+use Rattle.machine.specs.declared.event.Start.{Start}
+use Rattle.machine.specs.declared.event.Start.TheVariants as start
 use Rattle.bbq_core.specs.declared.phase.Phase.{Phase}
-use Rattle.bbq_core.specs.declared.view.View.{View}
-use Rattle.bbq_core.specs.declared.op.Op.{Op}
-use Rattle.bbq_core.specs.declared.op.Op.TheVariants.{Load, Store, AddOne, Max}
-use Rattle.bbq_core.specs.declared.op.After.{After}
-use Rattle.bbq_core.specs.declared.op.After.TheVariants.{Next, Done}
+use Rattle.bbq_core.specs.Types.{View, After}
+use Rattle.machine.specs.declared.op.Op.{Op}
+use Rattle.machine.specs.declared.op.Op.TheVariants.{Load, Store, AddOne, Max}
+use Rattle.machine.specs.declared.op.After.TheVariants.{Next, Done}
 use Rattle.bbq_core.specs.PutSteps.{FindsFit, IsInRange, after, first_put, rank, want}
 use Rattle.bbq_core.specs.TakeSteps.{first_take}
-use Rattle.bbq_core.specs.Machine.{answer_after, begun, index, made_after, moved, noted, phase_after, read_after, seen, taken_after}
+use Rattle.bbq_core.specs.Machine.{answer_after, begun, made_after, phase_after, read_after, seen, taken_after}
+use Rattle.machine.specs.Ops.{index, moved, noted}
 use Rattle.call_steps.specs.Steps.{Leads, logged, value_of}
 use Rattle.call_steps.specs.Rule.{DoesStep, IsAfterInRange, IsMachines, MayDo, MayFind, Moves, in_call, in_phase}
 use Rattle.call_steps.specs.Call.{HasPut, HasTaken, PutLeaves, ReadsWithin, TakeLeaves, TookSteps, Walks, out_after}

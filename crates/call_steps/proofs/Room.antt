@@ -1,6 +1,6 @@
 -- What the seats of a queue make and hold has places.
-use Rattle.std.proofs.Common.{◌≡◌, ℕ, ◌+◌, ◌*◌, ◌≤◌, List, get_or, length, length-append, arith}
-use Rattle.std.specs.Prelude.{Option, Some, None, slice_get}
+use Rattle.std.proofs.Common.{◌≡◌, ℕ, ◌*◌, ◌≤◌, List, get_or, length, length-append, arith}
+use Rattle.std.specs.Prelude.{Option, Some, slice_get}
 use Rattle.std.specs.List.{sum_by}
 use Rattle.std.proofs.lemmas.List.{length-map}
 use Rattle.std.proofs.lemmas.List.Sums.{sum_by-le}
@@ -13,8 +13,9 @@ use Rattle.rail.specs.declared.entry.Placed.{Placed}
 use Rattle.rail.specs.Items.{places}
 use Rattle.bbq_core.specs.declared.phase.Phase.{Phase}
 use Rattle.bbq_core.specs.declared.phase.Phase.TheVariants.{Write, Commit}
-use Rattle.bbq_core.specs.declared.view.View.{View}
-use Rattle.bbq_core.specs.Counts.{claim_count, held, made_count, made_total}
+use Rattle.bbq_core.specs.Types.{View}
+use Rattle.bbq_core.specs.Counts.{claim_count, held}
+use Rattle.machine.specs.Invariant.{made_count, made_total}
 use Rattle.call_steps.specs.Rule.{HasRoom, may_make}
 
 -- a seat that holds a place may still make its entry

@@ -5,15 +5,14 @@ use Rattle.cursor_word.specs.Shape.{Grid}
 use Rattle.cursor_word.specs.Cursor.{offset_span, place_at, unpacked}
 use Rattle.cursor_word.specs.declared.cursor.Cursor.{Cursor}
 use Rattle.rail.specs.Items.{placed}
-use Rattle.bbq_core.specs.declared.event.Start.{Start}
-use Rattle.bbq_core.specs.declared.event.Start.TheVariants as start
+use Rattle.machine.specs.declared.event.Start.{Start}
+use Rattle.machine.specs.declared.event.Start.TheVariants as start
 use Rattle.bbq_core.specs.declared.phase.Phase.{Phase}
 use Rattle.bbq_core.specs.declared.phase.Phase.TheVariants.{HeadP, SeeA, AddA, Write, Commit, SeeX, SeeR, OpenM, OpenA, RaiseP, Take}
 use Rattle.bbq_core.specs.declared.take_phase.TakePhase.{TakePhase}
 use Rattle.bbq_core.specs.declared.take_phase.TakePhase.TheVariants.{HeadC, SeeRes, SeeCom, SeeAll, Reserve, Read, Consume, NextCom, OpenX, OpenR, RaiseC}
-use Rattle.bbq_core.specs.declared.view.View.{View}
-use Rattle.bbq_core.specs.declared.op.After.{After}
-use Rattle.bbq_core.specs.declared.op.After.TheVariants.{Next, Done}
+use Rattle.bbq_core.specs.Types.{View, After}
+use Rattle.machine.specs.declared.op.After.TheVariants.{Next, Done}
 use Rattle.bbq_core.specs.PutSteps.{FindsFit, after, want}
 use Rattle.bbq_core.specs.TakeSteps.{after_take, passed}
 use Rattle.bbq_core.specs.Counts.{IsTaking}

@@ -4,15 +4,15 @@ use Rattle.cursor_word.specs.Shape.{Grid}
 use Rattle.cursor_word.specs.Cursor.{most_puts}
 use Rattle.step_log.specs.declared.step.Taken.{Taken}
 use Rattle.step_log.specs.Log.{Keeps}
-use Rattle.bbq_core.specs.declared.event.Start.{Start}
-use Rattle.bbq_core.specs.declared.event.Start.TheVariants as start
+use Rattle.machine.specs.declared.event.Start.{Start}
+use Rattle.machine.specs.declared.event.Start.TheVariants as start
 use Rattle.bbq_core.specs.declared.phase.Phase.{Phase}
 use Rattle.bbq_core.specs.declared.phase.Phase.TheVariants as phase
-use Rattle.bbq_core.specs.declared.view.View.{View}
-use Rattle.bbq_core.specs.declared.op.After.{After}
-use Rattle.bbq_core.specs.declared.op.After.TheVariants.{Next, Done}
+use Rattle.bbq_core.specs.Types.{View, After}
+use Rattle.machine.specs.declared.op.After.TheVariants.{Next, Done}
 use Rattle.bbq_core.specs.PutSteps.{FindsFit, IsInRange, after, want}
-use Rattle.bbq_core.specs.Machine.{begun, index, moved, seen}
+use Rattle.bbq_core.specs.Machine.{begun, seen}
+use Rattle.machine.specs.Ops.{index, moved}
 use Rattle.call_steps.specs.Steps.{logged, value_of}
 
 -- the phase that follows is in range
