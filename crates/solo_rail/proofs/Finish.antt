@@ -1,5 +1,5 @@
 -- What stands when the one seat is at rest and the words are shared no more.
-use Rattle.std.proofs.Common.{◌≡◌, ℕ, ◌+◌, ◌-◌, ◌<◌, ◌≤◌, List, [], ◌∷◌, ◌++◌, length, IsPermutation, append-nil, map, take, refl, sym, ap, ◌∙◌, subst, arith}
+use Rattle.std.proofs.Common.{◌≡◌, ℕ, ◌+◌, ◌-◌, ◌≤◌, List, [], ◌∷◌, ◌++◌, length, IsPermutation, append-nil, map, take, refl, sym, ap, ◌∙◌, subst, arith}
 use Rattle.std.specs.Prelude.{None}
 use Rattle.std.specs.List.{All}
 use Rattle.std.proofs.lemmas.List.{length-map, length-take-le}
@@ -17,9 +17,8 @@ use Rattle.rail.specs.Outcome.{IsAccepted, RetryOutcome, numbers_below}
 use Rattle.rail.proofs.Rising.{rising_accepted, same_by_permutation}
 use Rattle.step_log.specs.declared.step.Taken.{Taken}
 use Rattle.step_log.specs.Log.{Ends, TableId}
-use Rattle.bbq_core.specs.declared.view.View.{View}
-use Rattle.bbq_core.specs.Machine.{MachineState}
-use Rattle.bbq_core.specs.Counts.{made_total}
+use Rattle.bbq_core.specs.Types.{View, MachineState}
+use Rattle.machine.specs.Invariant.{made_total}
 use Rattle.bbq_core.specs.Gathered.{all_made, all_taken, left_in}
 use Rattle.bbq_core.specs.Sound.{IsSound}
 use Rattle.bbq_core.specs.Alone.{IsStill}

@@ -1,5 +1,5 @@
 -- Each step of the one seat keeps the rule.
-use Rattle.std.proofs.Common.{◌≡◌, ℕ, zero, suc, ◌+◌, ◌<◌, ◌≤◌, List, [], ◌∷◌, length, refl, sym, ap, ◌∙◌, subst, arith}
+use Rattle.std.proofs.Common.{◌≡◌, ℕ, zero, suc, ◌+◌, ◌≤◌, List, [], ◌∷◌, length, refl, sym, ap, ◌∙◌, subst, arith}
 use Rattle.std.specs.Prelude.{None, Option, Some, slice_get, slice_index, slice_set}
 use Rattle.std.proofs.lemmas.List.{length-append, length-map}
 use Rattle.std.proofs.lemmas.List.Sums.{sum_by-cons}
@@ -10,16 +10,17 @@ use Rattle.cursor_word.specs.Cursor.{place_span}
 use Rattle.call_steps.proofs.Room.{claims_fit, made_fits}
 use Rattle.rail.specs.declared.entry.Placed.{Placed}
 use Rattle.rail.specs.Items.{places}
-use Rattle.bbq_core.specs.declared.event.Start.{Start}
-use Rattle.bbq_core.specs.declared.event.Start.TheVariants as start
+use Rattle.machine.specs.declared.event.Start.{Start}
+use Rattle.machine.specs.declared.event.Start.TheVariants as start
 use Rattle.bbq_core.specs.declared.phase.Phase.{Phase}
-use Rattle.bbq_core.specs.declared.view.View.{View}
-use Rattle.bbq_core.specs.declared.op.After.{After}
-use Rattle.bbq_core.specs.declared.op.After.TheVariants.{Next, Done}
+use Rattle.bbq_core.specs.Types.{View, After}
+use Rattle.machine.specs.declared.op.After.TheVariants.{Next, Done}
 use Rattle.bbq_core.specs.PutSteps.{after, first_put, want}
 use Rattle.bbq_core.specs.TakeSteps.{first_take}
-use Rattle.bbq_core.specs.Counts.{fetch_count, made_total, reading, taken_total}
-use Rattle.bbq_core.specs.Machine.{begun, index, moved, phase_after, seen, words_after}
+use Rattle.bbq_core.specs.Counts.{fetch_count, reading, taken_total}
+use Rattle.machine.specs.Invariant.{made_total}
+use Rattle.bbq_core.specs.Machine.{begun, phase_after, seen, words_after}
+use Rattle.machine.specs.Ops.{index, moved}
 use Rattle.bbq_core.specs.Sound.{IsSound}
 use Rattle.bbq_core.specs.Alone.{GoesOnAlone, IsAlone, IsStill, gives_out}
 use Rattle.bbq_core.proofs.AloneCalls.{goes_alone, put_alone, take_alone}

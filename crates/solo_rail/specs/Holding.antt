@@ -1,14 +1,14 @@
 -- The rule of the words of a queue with one seat: the seat knows all words, and it stands alone.
-use Rattle.std.specs.Prelude.{◌≡◌, ℕ, ◌<◌, ◌≤◌, List, [], ◌∷◌, Option, Some, None, length}
+use Rattle.std.specs.Prelude.{◌≡◌, ℕ, ◌≤◌, List, [], ◌∷◌, Option, Some, None, length}
 use Rattle.cursor_word.specs.Shape.{Grid, IsWithinLimits}
 use Rattle.cursor_word.specs.Cursor.{place_span}
 use Rattle.rail.specs.declared.answer.Answer.{Answer}
-use Rattle.bbq_core.specs.declared.event.Start.{Start}
+use Rattle.machine.specs.declared.event.Start.{Start}
 use Rattle.bbq_core.specs.declared.phase.Phase.{Phase}
-use Rattle.bbq_core.specs.declared.view.View.{View}
-use Rattle.bbq_core.specs.declared.op.After.TheVariants.{Done}
+use Rattle.bbq_core.specs.Types.{View, MachineState}
+use Rattle.machine.specs.declared.op.After.TheVariants.{Done}
 use Rattle.bbq_core.specs.PutSteps.{after}
-use Rattle.bbq_core.specs.Machine.{MachineState, begun, resting, seen, start_state, words_after}
+use Rattle.bbq_core.specs.Machine.{begun, resting, seen, start_state, words_after}
 use Rattle.bbq_core.specs.Alone.{AnswersAlone, IsAlone, IsStill}
 use Rattle.bbq_core.proofs.Outcomes.{Tells}
 use Rattle.call_steps.specs.Rule.{HasRoom, MayFind}
