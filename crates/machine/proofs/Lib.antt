@@ -1,0 +1,10 @@
+pub mod Lists
+pub mod Turns
+pub mod Runs
+pub mod Kept
+pub mod Schedules
+pub mod Answered
+pub mod EndedCalls
+pub mod Bounded
+pub mod Calls
+pub mod Lone
