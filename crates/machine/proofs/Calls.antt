@@ -26,10 +26,6 @@ module _ {P : Type 0} where
   not_mid None e m = m
   not_mid (Some p) e m = cc
 
-  -- a seat in a phase is in mid-call
-  pub mid_there : (vs : List (View P)) (seat : ℕ) (v : View P) (p : P) → slice_get vs seat ≡ Some v → v.phase ≡ Some p → IsMidCall (phase_in (slice_get vs seat))
-  mid_there vs seat v p at e = subst (λ (o : Option (View P)). IsMidCall (phase_in o)) (sym at) (subst IsMidCall (sym e) tt)
-
   pub rest_at : (vs : List (View P)) → ((j : ℕ) → phase_in (slice_get vs j) ≡ None) → AllRest vs
   rest_at vs h j u at = ap phase_in (sym at) ∙ h j
 

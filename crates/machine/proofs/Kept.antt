@@ -8,7 +8,6 @@ use Rattle.std.specs.List.{range_with_len}
 use Rattle.cursor_word.specs.Layout.{start_at, word_count}
 use Rattle.std.proofs.lemmas.List.Sums.{sum_by-le}
 use Rattle.std.proofs.lemmas.Option.{slice_get-get_or, slice_get_read}
-use Rattle.std.proofs.Math.Nat.{mul-le-mul_right}
 use Rattle.cursor_word.specs.Shape.{Grid, IsWithinLimits}
 use Rattle.cursor_word.specs.Cursor.{most_puts, place_span}
 use Rattle.cursor_word.proofs.Places.{most_puts_fit}

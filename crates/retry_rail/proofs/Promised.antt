@@ -12,12 +12,12 @@ use Rattle.rail.specs.declared.answer.Take.{Take}
 use Rattle.rail.specs.declared.answer.Take.TheVariants as take
 use Rattle.rail.specs.declared.answer.Answer.TheVariants as answer
 use Rattle.step_log.specs.declared.step.Taken.{Taken}
-use Rattle.bbq_core.specs.declared.event.Start.TheVariants as start
+use Rattle.machine.specs.declared.event.Start.TheVariants as start
 use Rattle.bbq_core.specs.declared.phase.Phase.{Phase}
-use Rattle.bbq_core.specs.declared.op.After.TheVariants.{Next}
+use Rattle.machine.specs.declared.op.After.TheVariants.{Next}
 use Rattle.bbq_core.specs.PutSteps.{after, first_put}
 use Rattle.bbq_core.specs.TakeSteps.{first_take}
-use Rattle.bbq_core.specs.Machine.{MachineState}
+use Rattle.bbq_core.specs.Types.{MachineState}
 use Rattle.bbq_core.proofs.Outcomes.{Tells}
 use Rattle.call_steps.specs.Call.{HasPut, HasTaken, PutLeaves, TakeLeaves, TookSteps, Walks}
 use Rattle.call_steps.proofs.Last.{LastTold}

@@ -19,9 +19,10 @@ use Rattle.rail.specs.Outcome.{IsAccepted, RetryOutcome}
 use Rattle.rail.specs.declared.entry.Placed.{Placed}
 use Rattle.rail.proofs.Dense.{dense_take}
 use Rattle.rail.proofs.Rising.{rising_range}
-use Rattle.bbq_core.specs.declared.view.View.{View}
-use Rattle.bbq_core.specs.Machine.{AllRest}
-use Rattle.bbq_core.specs.Counts.{made_total, taken_total}
+use Rattle.bbq_core.specs.Types.{View}
+use Rattle.machine.specs.Steps.{AllRest}
+use Rattle.bbq_core.specs.Counts.{taken_total}
+use Rattle.machine.specs.Invariant.{made_total}
 use Rattle.bbq_core.specs.Gathered.{IsSettled, all_made, all_taken, left_in}
 use Rattle.bbq_core.proofs.TakeLoads.{by_equal}
 use Rattle.bbq_core.proofs.Orders.{InOrder, order_length, stands_at, stands_from}

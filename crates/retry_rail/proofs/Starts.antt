@@ -1,5 +1,5 @@
 -- The rule holds at the start, and seats take no more than they have places for.
-use Rattle.std.proofs.Common.{◌≡◌, ℕ, zero, suc, ◌*◌, ◌<◌, ◌≤◌, List, [], ◌∷◌, All, get_or, length, append-nil, sym, ap, ◌∙◌, subst, ⊎_elim, arith}
+use Rattle.std.proofs.Common.{◌≡◌, ℕ, zero, suc, ◌≤◌, List, [], ◌∷◌, length, append-nil, sym, ap, ◌∙◌, subst, ⊎_elim, arith}
 use Rattle.std.specs.Prelude.{Some, slice_get}
 use Rattle.std.proofs.lemmas.Bool.{cases_lt}
 use Rattle.std.proofs.lemmas.List.{length-append, length-map, length-replicate}
@@ -10,14 +10,14 @@ use Rattle.cursor_word.specs.Cursor.{place_span}
 use Rattle.call_steps.proofs.Room.{claims_fit}
 use Rattle.rail.specs.Items.{places}
 use Rattle.rail.specs.declared.entry.Placed.{Placed}
-use Rattle.bbq_core.specs.declared.view.View.{View}
+use Rattle.bbq_core.specs.Types.{View}
 use Rattle.bbq_core.specs.Machine.{resting, start_state}
-use Rattle.bbq_core.specs.Counts.{fetch_count, made_count, made_total, reading}
+use Rattle.bbq_core.specs.Counts.{fetch_count, reading}
 use Rattle.bbq_core.specs.Sound.{IsSound, IsSoundAt}
 use Rattle.bbq_core.proofs.Facts.{none_from}
 use Rattle.bbq_core.proofs.TakeFacts.{made_once, reserved_made}
 use Rattle.bbq_core.proofs.Runs.{start_sound}
-use Rattle.bbq_core.proofs.Views.{get_replicate, one_le_sum}
+use Rattle.machine.proofs.Lists.{get_replicate, one_le_sum}
 use Rattle.retry_rail.specs.declared.holding.Holding.{Holding}
 use Rattle.retry_rail.specs.Holding.{IsHeld, all_seats, views_of}
 use Rattle.call_steps.specs.Rule.{HasRoom}

@@ -6,14 +6,14 @@ use Rattle.cursor_word.specs.Shape.{Grid, IsWithinLimits}
 use Rattle.call_steps.proofs.Room.{made_fits}
 use Rattle.step_log.proofs.Lists.{at_set}
 use Rattle.step_log.specs.Log.{Keeps}
-use Rattle.bbq_core.specs.declared.view.View.{View}
-use Rattle.bbq_core.specs.declared.event.Start.{Start}
-use Rattle.bbq_core.specs.declared.event.Start.TheVariants as start
+use Rattle.bbq_core.specs.Types.{View, After}
+use Rattle.machine.specs.declared.event.Start.{Start}
+use Rattle.machine.specs.declared.event.Start.TheVariants as start
 use Rattle.bbq_core.specs.declared.phase.Phase.{Phase}
-use Rattle.bbq_core.specs.declared.op.After.{After}
-use Rattle.bbq_core.specs.declared.op.After.TheVariants.{Next, Done}
+use Rattle.machine.specs.declared.op.After.TheVariants.{Next, Done}
 use Rattle.bbq_core.specs.PutSteps.{after, want}
-use Rattle.bbq_core.specs.Machine.{begun, index, moved, phase_after, seen, words_after}
+use Rattle.bbq_core.specs.Machine.{begun, phase_after, seen, words_after}
+use Rattle.machine.specs.Ops.{index, moved}
 use Rattle.bbq_core.specs.Sound.{IsSound}
 use Rattle.bbq_core.proofs.Keeps.{keeps}
 use Rattle.bbq_core.proofs.Ready.{can_step}

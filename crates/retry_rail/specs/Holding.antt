@@ -3,7 +3,7 @@ use Rattle.std.specs.Prelude.{◌≡◌, ℕ, ◌<◌, List, [], ◌++◌, Some,
 use mathlib.Core.Option.{some}
 use lib.ListN.{get_elem?}
 use Rattle.cursor_word.specs.Shape.{Grid, IsWithinLimits}
-use Rattle.bbq_core.specs.declared.view.View.{View}
+use Rattle.bbq_core.specs.Types.{View}
 use Rattle.bbq_core.specs.Machine.{resting}
 use Rattle.bbq_core.specs.Sound.{IsSound}
 use Rattle.call_steps.specs.Rule.{HasRoom}

@@ -2,7 +2,8 @@
 ghost use Rattle.std.specs.Prelude.{◌≡◌, ℕ, ◌+◌, ◌-◌, ◌^◌, ◌<◌, List, [], ◌∷◌, ◌++◌, Some, None, false, IfOk, All, IsPermutation, map, length, min, replicate};
 ghost use Rattle.std.specs.List.{range_with_len};
 ghost use Rattle.cursor_word.specs.Layout.{start_at, word_count};
-ghost use Rattle.bbq_core.specs.Machine.{AllRest, resting};
+ghost use Rattle.bbq_core.specs.Machine.{resting};
+ghost use Rattle.machine.specs.Steps.{AllRest};
 ghost use Rattle.rail.specs.Outcome.{numbers_below};
 ghost use Rattle.rail.specs.Rail.{Puts, Takes};
 ghost use Rattle.rail.specs.declared.answer.Answer.TheVariants as answer;
