@@ -1,0 +1,9 @@
+pub mod Cursors
+pub mod Stages
+pub mod Counts
+pub mod Places
+pub mod Entries
+pub mod PutSide
+pub mod PutTable
+pub mod Manned
+pub mod Gathered
