@@ -10,7 +10,7 @@ use Rattle.rail.specs.declared.entry.Placed.{Placed}
 use Rattle.rail.specs.Items.{IsRising}
 use Rattle.machine.proofs.Lists.{get_set, sum_set}
 use Rattle.put_side.specs.Cursors.{Front, place, put_cursors}
-use Rattle.put_side.proofs.Frames.{IsGrown}
+use Rattle.put_side.proofs.Frames.{IsGrown, grown_same}
 use Rattle.put_side.proofs.Made.{KeepsMade}
 use Rattle.put_side.specs.Counts.{times}
 use Rattle.put_side.specs.PutSide.{PutSide}
@@ -33,6 +33,9 @@ pub record IsLater (last last' : ℕ) (c c' : Cursors) : Type 0 where
   pub puts : IsGrown c.puts c'.puts
   pub consumer : c.consumer ≤ c'.consumer
   pub reserved : (k : ℕ) → c.reserved k ≤ c'.reserved k
+
+pub nothing_later : (last : ℕ) (c : Cursors) → IsLater last last c c
+nothing_later last c = record { last_to = omega arith; puts = grown_same c.puts; consumer = omega arith; reserved = λ k. omega arith }
 
 -- the rows of a block are before those of a later one
 pub rows : (g : Grid) (n m : ℕ) → n ≤ m → place g n 0 ≤ place g m 0

@@ -26,3 +26,4 @@ pub mod AlonePuts
 pub mod AloneCalls
 pub mod CallKinds
 pub mod LoneLaw
+pub mod Permutes

@@ -66,7 +66,8 @@ TakeAlone g accepted next c (SeeCom turn r) =
     (r.block ≡ c.consumer) × (packed r ≡ c.reserved c.consumer)
     × ((turn ≡ 1) ⊎ IsLive g c c.consumer)
 TakeAlone g accepted next c (SeeAll r m) =
-    (r.block ≡ c.consumer) × (packed r ≡ c.reserved c.consumer) × (packed m ≡ c.puts.committed c.consumer)
+    (r.block ≡ c.consumer) × (packed r ≡ c.reserved c.consumer)
+    × (packed m ≡ c.puts.committed c.consumer)
 TakeAlone g accepted next c (Reserve r) =
     (r.block ≡ c.consumer) × (packed r ≡ c.reserved c.consumer) × IsLive g c c.consumer
 TakeAlone g accepted next c (Read at n) =
@@ -99,8 +100,8 @@ KnowsAlone g accepted next ws (RaiseP full) =
     × (allocated_word g ws (full.block + 1) ≡ (full.block + 1) * offset_span)
 KnowsAlone g accepted next ws (Take q) = TakeAlone g accepted next (cursors g ws) q
 
--- seat id is alone in phase p of a call that began where so many entries were accepted, and the takes
--- had been answered places below `next`
+-- seat id is alone in phase p of a call that began where so many entries were accepted, and the
+-- takes had been answered places below `next`
 pub record IsAlone (g : Grid) (accepted next : ℕ) (ws : List ℕ) (vs : List View) (id : ℕ)
     (p : DropPhase) : Type 0 where
   pub sound : IsSound g ws vs
@@ -109,8 +110,8 @@ pub record IsAlone (g : Grid) (accepted next : ℕ) (ws : List ℕ) (vs : List V
   pub answered : IsNext g (cursors g ws) vs next
   pub knows : KnowsAlone g accepted next ws p
 
--- all seats are at rest, where so many entries are accepted, and the takes were answered places below
--- `next`
+-- all seats are at rest, where so many entries are accepted, and the takes were answered places
+-- below `next`
 pub record IsStill (g : Grid) (accepted next : ℕ) (ws : List ℕ) (vs : List View) : Type 0 where
   pub sound : IsSound g ws vs
   pub rest : AllRest vs
@@ -127,8 +128,8 @@ abbrev pub accepts : Answer → ℕ
 accepts (answer.Put (put.Ok place)) = 1
 accepts a = 0
 
--- after a step of a seat alone: it goes on alone, or all seats are at rest and the answer is what one
--- thread is answered
+-- after a step of a seat alone: it goes on alone, or all seats are at rest and the answer is what
+-- one thread is answered
 abbrev pub GoesOnAlone : Grid → ℕ → ℕ → List ℕ → List View → ℕ → After → Type 0
 GoesOnAlone g accepted next ws vs id (Next p) = IsAlone g accepted next ws vs id p
 GoesOnAlone g accepted next ws vs id (Done a) =

@@ -27,8 +27,8 @@ pub record FoundBy (Is : DropPhase → Type 0) (c : Cursor) (steps : List CallSt
   pub kind : Is step.phase
   pub found : shown step.phase step.found ≡ c
 
--- a step of this turn that finds the allocated cursor of the head's block, the consumer head, or the
--- reserved cursor of that head's block
+-- a step of this turn that finds the allocated cursor of the head's block, the consumer head, or
+-- the reserved cursor of that head's block
 abbrev pub FindsAllocated : ℕ → DropPhase → Type 0
 FindsAllocated turn (SeeA t first head) = t ≡ turn
 FindsAllocated turn (AddA t first head) = t ≡ turn
@@ -50,9 +50,9 @@ abbrev pub FindsCommitted : Cursor → DropPhase → Type 0
 FindsCommitted reserved (Take (SeeCom turn r)) = r ≡ reserved
 FindsCommitted reserved p = ⊥
 
--- The last step of a take that answers Empty, where it found this cursor after the reserved one: the
--- committed cursor is the same, and this is its place; or the block is spent and the next one is not
--- opened, and this is that one's first place.
+-- The last step of a take that answers Empty, where it found this cursor after the reserved one:
+-- the committed cursor is the same, and this is its place; or the block is spent and the next one
+-- is not opened, and this is that one's first place.
 abbrev pub EmptyBy : Grid → ℕ → Cursor → Cursor → DropPhase → Type 0
 EmptyBy g place reserved found (Take (SeeCom turn r)) =
     (r ≡ reserved) × (found ≡ reserved) × (place ≡ place_at g reserved)
@@ -62,7 +62,8 @@ EmptyBy g place reserved found p = ⊥
 
 -- a call that answers Empty found a reserved cursor, and in its last step a committed one, and the
 -- queue was empty then
-pub record EmptyShown (g : Grid) (events : List Event) (steps : List CallStep) (place : ℕ) : Type 0 where
+pub record EmptyShown (g : Grid) (events : List Event) (steps : List CallStep)
+    (place : ℕ) : Type 0 where
   pub reserved : Cursor
   pub committed : Cursor
   pub first : FoundBy FindsAnyReserved reserved steps
@@ -71,9 +72,11 @@ pub record EmptyShown (g : Grid) (events : List Event) (steps : List CallStep) (
   pub is_last : suc last.number ≡ length steps
   pub was_empty : EmptyAt g (moment table g events last.step.position) place
 
--- A call that answers Overrun reserved that place, for it found the reserved cursor at it; and in its
--- last step it found the allocated cursor of the place's physical block, and the block was reused then.
-pub record OverrunShown (g : Grid) (events : List Event) (steps : List CallStep) (place : ℕ) (now : Cursor) : Type 0 where
+-- A call that answers Overrun reserved that place, for it found the reserved cursor at it; and in
+-- its last step it found the allocated cursor of the place's physical block, and the block was
+-- reused then.
+pub record OverrunShown (g : Grid) (events : List Event) (steps : List CallStep) (place : ℕ)
+    (now : Cursor) : Type 0 where
   pub at : Cursor
   pub is_place : place ≡ place_at g at
   pub reserves : FoundBy (λ p. p ≡ Take (Reserve at)) at steps
@@ -91,21 +94,22 @@ abbrev pub second_found : Why → Cursor
 second_found (why.Unfinished block before after) = after
 second_found (why.Moved earlier later) = later
 
--- The step p that finds the first cursor of a put's Busy answer, and the step q that finds the second:
--- the filled allocated cursor and then the committed one in the place of the next block, or the
--- allocated cursor in each turn.
+-- The step p that finds the first cursor of a put's Busy answer, and the step q that finds the
+-- second: the filled allocated cursor and then the committed one in the place of the next block, or
+-- the allocated cursor in each turn.
 abbrev pub PutPair : Grid → Why → DropPhase → DropPhase → Type 0
 PutPair g (why.Unfinished block before after) p (SeeM full) =
     FindsAllocated 1 p × (full ≡ before) × (block ≡ full.block + 1 - g.blocks)
 PutPair g (why.Unfinished block before after) p q = ⊥
 PutPair g (why.Moved earlier later) p q = FindsAllocated 1 p × FindsAllocated 2 q
 
--- And those of a take's: the committed cursor and then the allocated one; the consumer head and then
--- the reserved cursor of its physical block; the reserved cursor in each turn; the reserved cursor and
--- then, in the second turn, the committed one; or the reserved cursor and then the reserved cursor
--- again, where this take would have reserved.
+-- And those of a take's: the committed cursor and then the allocated one; the consumer head and
+-- then the reserved cursor of its physical block; the reserved cursor in each turn; the reserved
+-- cursor and then, in the second turn, the committed one; or the reserved cursor and then the
+-- reserved cursor again, where this take would have reserved.
 abbrev pub TakePair : Why → DropPhase → DropPhase → Type 0
-TakePair (why.Unfinished block before after) p (Take (SeeAll r m)) = FindsCommitted r p × (block ≡ m.block)
+TakePair (why.Unfinished block before after) p (Take (SeeAll r m)) =
+    FindsCommitted r p × (block ≡ m.block)
 TakePair (why.Unfinished block before after) p q = ⊥
 TakePair (why.Moved earlier later) p (Take (SeeRes turn first head)) =
     FindsHead turn p ⊎ ((turn ≡ 2) × FindsReserved 1 p)
@@ -121,8 +125,10 @@ Differ (why.Unfinished block before after) q = before ≢ after
 Differ (why.Moved earlier later) (Take (Reserve r)) = IsBefore earlier later
 Differ (why.Moved earlier later) q = earlier.block < later.block
 
--- a call that answers Busy found the second cursor in its last step, and the first in an earlier one
-pub record BusyShown (Pair : DropPhase → DropPhase → Type 0) (steps : List CallStep) (reason : Why) : Type 0 where
+-- a call that answers Busy found the second cursor in its last step, and the first in an earlier
+-- one
+pub record BusyShown (Pair : DropPhase → DropPhase → Type 0) (steps : List CallStep)
+    (reason : Why) : Type 0 where
   pub earlier : FoundBy (λ p. Unit {0}) (first_found reason) steps
   pub later : FoundBy (λ q. Pair earlier.step.phase q) (second_found reason) steps
   pub in_order : earlier.number < later.number

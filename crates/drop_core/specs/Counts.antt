@@ -1,4 +1,5 @@
--- How often places are read and taken, as sums over the views of all seats, so that the order of seats is of no matter.
+-- How often places are read and taken, as sums over the views of all seats, so that the order of
+-- seats is of no matter.
 use Rattle.std.specs.Prelude.{ℕ, ◌+◌, ◌/◌, ◌<◌, ◌≤◌, ◌⊎◌, List, [], ◌∷◌, ◌++◌, Option, Some}
 use Rattle.std.specs.List.{sum_by}
 use Rattle.cursor_word.specs.Shape.{Grid}
@@ -42,7 +43,8 @@ raises_consumer block phase = 0
 abbrev pub raising : ℕ → View → ℕ
 raising block view = raises_consumer block view.phase
 
--- where a reserved cursor is of a block beyond the consumer head, some take is about to raise the head to it
+-- where a reserved cursor is of a block beyond the consumer head, some take is about to raise the
+-- head to it
 abbrev pub IsAttended : Cursors → List View → Type 0
 IsAttended cursors views = (block : ℕ)
     → (cursors.reserved block / offset_span ≤ cursors.consumer)
@@ -50,7 +52,8 @@ IsAttended cursors views = (block : ℕ)
 
 -- Each place is taken or read at most once, and only where it was reserved. In a block that isn't
 -- reused each reserved place is taken or read; in a reused one a take may have given it up.
-pub record TakeCounts (shape : Grid) (last : ℕ) (cursors : Cursors) (views : List View) : Type 0 where
+pub record TakeCounts (shape : Grid) (last : ℕ) (cursors : Cursors)
+    (views : List View) : Type 0 where
   pub once : (p : ℕ) → sum_by (fetches shape p) views ≤ 1
   pub gone : (block offset : ℕ) → shape.blocks ≤ block → offset < shape.size
       → 1 ≤ sum_by (fetches shape (place shape block offset)) views → IsGone cursors block offset

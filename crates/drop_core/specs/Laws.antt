@@ -29,8 +29,8 @@ abbrev pub MadeRises : List View → Type 0
 MadeRises views = (seat : ℕ) (view : View) → slice_get views seat ≡ Some view
     → IsRising (places view.made)
 
--- no cursor word overflows: an allocated offset passes the size at most once for each seat, and block
--- numbers are small
+-- no cursor word overflows: an allocated offset passes the size at most once for each seat, and
+-- block numbers are small
 pub record WordsAreSmall (shape : Grid) (words : List ℕ) : Type 0 where
   pub offsets : (block : ℕ) → block < shape.blocks
       → allocated_word shape words block % offset_span ≤ shape.size + shape.seats
@@ -67,4 +67,5 @@ steps_of_answer shape (answer.Take take) = shape.width + 12
 
 -- the most steps of the call that a seat is in, or of the last that it ended
 abbrev pub most_steps : Grid → Option DropPhase → Option Answer → ℕ
-most_steps shape phase last = bounds.most_steps (steps_of_phase shape) (steps_of_answer shape) phase last
+most_steps shape phase last =
+    bounds.most_steps (steps_of_phase shape) (steps_of_answer shape) phase last

@@ -40,7 +40,8 @@ pub record IsHead (shape : Grid) (cursors : Cursors) (taken : List Placed) (head
   pub above : AreBelow taken (place shape (head + 1) 0)
 
 -- a reserved cursor with room that was found, and all that the seat has taken lies below it
-pub record IsFound (shape : Grid) (cursors : Cursors) (taken : List Placed) (r : Cursor) : Type 0 where
+pub record IsFound (shape : Grid) (cursors : Cursors) (taken : List Placed)
+    (r : Cursor) : Type 0 where
   pub from : shape.blocks ≤ r.block
   pub to : r.block ≤ cursors.consumer
   pub within : r.offset < shape.size
@@ -67,10 +68,10 @@ pub record IsNextLive (shape : Grid) (last : ℕ) (cursors : Cursors) (from to :
   pub passed : (block : ℕ) → block < to → IsPassed shape last cursors block
   pub opened : to ≤ last
 
--- A place that was reserved, and the words that were read of it so far: while its block has not made
--- way, they are those of the item that was made there.
-pub record IsReading (shape : Grid) (cursors : Cursors) (views : List View) (at : Cursor) (count : ℕ)
-    (read : List ℕ) : Type 0 where
+-- A place that was reserved, and the words that were read of it so far: while its block has not
+-- made way, they are those of the item that was made there.
+pub record IsReading (shape : Grid) (cursors : Cursors) (views : List View) (at : Cursor)
+    (count : ℕ) (read : List ℕ) : Type 0 where
   pub from : shape.blocks ≤ at.block
   pub to : at.block ≤ cursors.consumer
   pub within : at.offset < shape.size
@@ -103,9 +104,10 @@ TakeKnows shape last cursors views taken read (OpenR from to) =
 TakeKnows shape last cursors views taken read (RaiseC from to) =
     (shape.blocks ≤ from.block) × (from.block < to) × (to * offset_span ≤ cursors.reserved to)
 
--- what a seat remembers beyond what the side of puts does: before the next block is opened, that the
--- block which it takes the place of was found wholly committed
-abbrev pub DropKnows : Grid → ℕ → Cursors → List View → List Placed → List ℕ → Option DropPhase → Type 0
+-- what a seat remembers beyond what the side of puts does: before the next block is opened, that
+-- the block which it takes the place of was found wholly committed
+abbrev pub DropKnows : Grid → ℕ → Cursors → List View → List Placed → List ℕ
+    → Option DropPhase → Type 0
 DropKnows shape last cursors views taken read (Some (OpenM full)) =
     older_committed shape full.block ≤ cursors.puts.committed (full.block + 1)
 DropKnows shape last cursors views taken read (Some (Take take)) =
@@ -113,7 +115,8 @@ DropKnows shape last cursors views taken read (Some (Take take)) =
 DropKnows shape last cursors views taken read phase = Unit {0}
 
 -- a seat on the side of takes
-pub record TakeFits (shape : Grid) (last : ℕ) (cursors : Cursors) (views : List View) (view : View) : Type 0 where
+pub record TakeFits (shape : Grid) (last : ℕ) (cursors : Cursors) (views : List View)
+    (view : View) : Type 0 where
   pub knows : DropKnows shape last cursors views view.taken view.read view.phase
   pub rising : IsRising (fetched shape view)
   pub items : (i : ℕ) (item : Placed) → slice_get view.taken i ≡ Some item → IsMade views item
@@ -123,7 +126,8 @@ pub record TakeFits (shape : Grid) (last : ℕ) (cursors : Cursors) (views : Lis
       → view.read ≡ []
 
 -- the invariant, where puts have come this far
-pub record IsSoundAt (shape : Grid) (front : Front) (words : List ℕ) (views : List View) : Type 0 where
+pub record IsSoundAt (shape : Grid) (front : Front) (words : List ℕ)
+    (views : List View) : Type 0 where
   pub puts : PutSide (stage_of stage) shape front words views
   -- the block numbers before the first hold no entries, and count as wholly committed
   pub before : (block : ℕ) → block < shape.blocks → front.last < block + shape.blocks

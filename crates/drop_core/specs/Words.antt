@@ -33,14 +33,17 @@ IsPassed shape last cursors block =
     ⊎ (block * offset_span + shape.size ≤ cursors.reserved block))
 
 -- The reserved cursor of a block's physical block stands above an offset of the block. So the place
--- there was reserved, or takes left it behind when they opened the reserved cursor of a later block.
+-- there was reserved, or takes left it behind when they opened the reserved cursor of a later
+-- block.
 abbrev pub IsGone : Cursors → ℕ → ℕ → Type 0
 IsGone cursors block offset = block * offset_span + offset < cursors.reserved block
 
 -- the cursors that takes move
-pub record TakeWords (shape : Grid) (last : ℕ) (cursors : Cursors) (views : List View) : Type 0 where
+pub record TakeWords (shape : Grid) (last : ℕ) (cursors : Cursors)
+    (views : List View) : Type 0 where
   -- each reserved cursor is of a block of its physical block that was opened
-  pub same : (block : ℕ) → (cursors.reserved block / offset_span) % shape.blocks ≡ block % shape.blocks
+  pub same : (block : ℕ)
+      → (cursors.reserved block / offset_span) % shape.blocks ≡ block % shape.blocks
   pub to : (block : ℕ) → cursors.reserved block / offset_span ≤ last
   pub most : (block : ℕ) → cursors.reserved block % offset_span ≤ shape.size
   -- only made places are reserved

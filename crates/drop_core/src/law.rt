@@ -14,7 +14,8 @@ ghost use Rattle.drop_core.specs.Laws.{MadeRises, PlacesAreDense, TakenIsMade, T
 use cursor_word::Shape;
 use machine::Event;
 
-/// At each moment of each schedule the places that were made or are held are dense, each seat's made places rise, and no word overflows.
+/// At each moment of each schedule the places that were made or are held are dense, each seat's
+/// made places rise, and no word overflows.
 pub fn drop_law_accepted(shape: &Shape, events: &[Event])
     requires suits { AllByRecursion (Suits table shape.now) events.now }
     requires few { length events.now < most_puts shape.now }
@@ -25,27 +26,35 @@ pub fn drop_law_accepted(shape: &Shape, events: &[Event])
     let _blocks = shape.blocks();
 }
 
-/// At each moment of each schedule each taken entry is a made one, no place is taken twice, and each seat's taken places rise. Where all
-/// seats are at rest, the accepted entries of the blocks that aren't reused and weren't taken stand in the words.
+/// At each moment of each schedule each taken entry is a made one, no place is taken twice, and
+/// each seat's taken places rise. Where all seats are at rest, the accepted entries of the blocks
+/// that aren't reused and weren't taken stand in the words.
 pub fn drop_law_taken(shape: &Shape, events: &[Event])
     requires suits { AllByRecursion (Suits table shape.now) events.now }
     requires few { length events.now < most_puts shape.now }
     ensures made { (n : ℕ) → TakenIsMade (moment table shape.now events.now n).views }
     ensures once { (n : ℕ) → TakenOnce shape.now (moment table shape.now events.now n).views }
     ensures rising { (n : ℕ) → TakenRises (moment table shape.now events.now n).views }
-    ensures outcome { (n : ℕ) → AllRest (moment table shape.now events.now n).views → IsSettled shape.now (moment table shape.now events.now n) }
+    ensures outcome { (n : ℕ) → AllRest (moment table shape.now events.now n).views
+        → IsSettled shape.now (moment table shape.now events.now n) }
 {
     let _blocks = shape.blocks();
 }
 
-/// In each schedule each call ends within its bound: the rank of its phase falls at each step, and leaves room for the steps that follow.
+/// In each schedule each call ends within its bound: the rank of its phase falls at each step, and
+/// leaves room for the steps that follow.
 pub fn drop_law_steps(shape: &Shape, events: &[Event])
     requires suits { AllByRecursion (Suits table shape.now) events.now }
     requires few { length events.now < most_puts shape.now }
-    ensures bound { (n seat : ℕ) (view : View) → slice_get (moment table shape.now events.now n).views seat ≡ Some view → length view.trail ≤ most_steps shape.now view.phase view.answer }
-    ensures rank { (n seat : ℕ) (view : View) (p : DropPhase) → slice_get (moment table shape.now events.now n).views seat ≡ Some view → view.phase ≡ Some p
+    ensures bound { (n seat : ℕ) (view : View)
+        → slice_get (moment table shape.now events.now n).views seat ≡ Some view
+        → length view.trail ≤ most_steps shape.now view.phase view.answer }
+    ensures rank { (n seat : ℕ) (view : View) (p : DropPhase)
+        → slice_get (moment table shape.now events.now n).views seat ≡ Some view
+        → view.phase ≡ Some p
         → length view.trail + rank shape.now p ≤ steps_of_phase shape.now p }
-    ensures falls { (p next : DropPhase) (old : ℕ) → IsInRange shape.now p → after shape.now p old ≡ Next next → rank shape.now next < rank shape.now p }
+    ensures falls { (p next : DropPhase) (old : ℕ) → IsInRange shape.now p
+        → after shape.now p old ≡ Next next → rank shape.now next < rank shape.now p }
 {
     let _blocks = shape.blocks();
 }

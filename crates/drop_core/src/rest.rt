@@ -10,8 +10,9 @@ ghost use Rattle.drop_core.specs.Rest.{AnsweredAsOne};
 use cursor_word::Shape;
 use machine::Event;
 
-/// In each schedule a call that is done alone answers as the queue of one thread does, by what was made and answered where the call
-/// began. That holds too where other seats have turns, while none of them is in mid-call after the call's first step and before its last.
+/// In each schedule a call that is done alone answers as the queue of one thread does, by what was
+/// made and answered where the call began. That holds too where other seats have turns, while none
+/// of them is in mid-call after the call's first step and before its last.
 pub fn drop_law_rest(shape: &Shape, events: &[Event])
     requires suits { AllByRecursion (Suits table shape.now) events.now }
     requires few { length events.now < most_puts shape.now }
