@@ -1,5 +1,5 @@
 -- A call that is done alone, from its beginning to its answer.
-use Rattle.std.proofs.Common.{◌≡◌, ℕ, ◌<◌, ◌≤◌, List, length, refl, sym, ap, ◌∙◌, inl, inr, ⊎_elim, arith}
+use Rattle.std.proofs.Common.{◌≡◌, ℕ, ◌≤◌, List, length, refl, sym, ap, ◌∙◌, inl, inr, ⊎_elim, arith}
 use Rattle.std.specs.Prelude.{Option, Some, None, slice_get, slice_set}
 use Rattle.std.specs.List.{sum_by}
 use Rattle.cursor_word.specs.Shape.{Grid, IsWithinLimits}
@@ -7,16 +7,17 @@ use Rattle.cursor_word.specs.Cursor.{place_span}
 use Rattle.bbq_core.specs.declared.phase.Phase.{Phase}
 use Rattle.bbq_core.specs.declared.phase.Phase.TheVariants.{HeadP, SeeA, AddA, Write, Commit, SeeX, SeeR, OpenM, OpenA, RaiseP, Take}
 use Rattle.bbq_core.specs.declared.take_phase.TakePhase.TheVariants.{HeadC, SeeRes, SeeCom, SeeAll, Reserve, Read, Consume, NextCom, OpenX, OpenR, RaiseC}
-use Rattle.bbq_core.specs.declared.event.Start.TheVariants as start
-use Rattle.bbq_core.specs.declared.view.View.{View}
+use Rattle.machine.specs.declared.event.Start.TheVariants as start
+use Rattle.bbq_core.specs.Types.{View}
 use Rattle.bbq_core.specs.PutSteps.{first_put}
 use Rattle.bbq_core.specs.TakeSteps.{first_take}
 use Rattle.bbq_core.specs.Machine.{begun}
-use Rattle.bbq_core.specs.Counts.{made_count, taken_count}
+use Rattle.bbq_core.specs.Counts.{taken_count}
+use Rattle.machine.specs.Invariant.{made_count}
 use Rattle.bbq_core.specs.Sound.{IsSoundAt}
 use Rattle.bbq_core.specs.Manned.{IsManned, in_all, opens_allocated, opens_reserved, raises_consumer, raises_producer}
 use Rattle.bbq_core.specs.Alone.{IsAlone, IsStill, LoneKnows}
-use Rattle.bbq_core.proofs.Views.{get_set_other, sum_set}
+use Rattle.machine.proofs.Lists.{get_set_other, sum_set}
 use Rattle.bbq_core.proofs.Keeps.{opened_few}
 use Rattle.bbq_core.proofs.Runs.{begins_put, begins_take}
 use Rattle.bbq_core.proofs.LoneSteps.{Goes, IsHere}
@@ -48,12 +49,11 @@ goes g n t K J a u ws vs id v (Take (OpenR sp)) h = lone_OpenR g n t K J a u ws 
 goes g n t K J a u ws vs id v (Take (RaiseC sp)) h = lone_RaiseC g n t K J a u ws vs id v sp h
 
 -- a step of a seat alone: it goes on alone, or all seats are at rest and the answer is what one thread is answered
-pub goes_alone : (g : Grid) (n t : ℕ) (ws : List ℕ) (vs : List View) (id : ℕ) (v : View) (p : Phase) → IsWithinLimits g → IsAlone g n t ws vs id p → n < place_span → slice_get vs id ≡ Some v → v.phase ≡ Some p → Goes g n t ws vs id v p
+pub goes_alone : (g : Grid) (n t : ℕ) (ws : List ℕ) (vs : List View) (id : ℕ) (v : View) (p : Phase) → IsWithinLimits g → IsAlone g n t ws vs id p → n ≤ place_span g → slice_get vs id ≡ Some v → v.phase ≡ Some p → Goes g n t ws vs id v p
 goes_alone g n t ws vs id v p limits s room at e =
-    let few = opened_few g s.opened s.passed s.allocated s.reserved ws vs limits s.sound in
-    let total = s.made in
+    let few = opened_few g s.opened s.passed s.allocated s.reserved ws vs limits s.sound (omega (arith, s.made)) in
     goes g n t s.opened s.passed s.allocated s.reserved ws vs id v p
-    record { limits = limits; sound = s.sound; small = omega (arith, limits.blocks_to, limits.seats_to); manned = s.manned; at = at; phase = e; others = s.others; made = s.made; taken = s.taken; knows = s.knows }
+    record { limits = limits; sound = s.sound; small = few; manned = s.manned; at = at; phase = e; others = s.others; made = s.made; taken = s.taken; knows = s.knows }
 
 -- who is at work stays where a seat at rest begins a call
 pub begun_manned : (g : Grid) (K J : ℕ) (ws : List ℕ) (vs : List View) (id : ℕ) (v v' : View) → slice_get vs id ≡ Some v → v.phase ≡ None → IsManned g K J ws vs → IsManned g K J ws (slice_set vs id v')

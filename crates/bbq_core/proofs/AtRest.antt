@@ -6,15 +6,16 @@ use Rattle.std.proofs.lemmas.Bool.{cases_lt}
 use Rattle.std.proofs.lemmas.List.Folds.{sum_by-replicate}
 use Rattle.cursor_word.specs.Shape.{Grid, IsWithinLimits}
 use Rattle.cursor_word.specs.Cursor.{offset_span}
-use Rattle.bbq_core.specs.declared.view.View.{View}
+use Rattle.bbq_core.specs.Types.{View}
 use Rattle.bbq_core.specs.Machine.{resting, start_state}
 use Rattle.bbq_core.specs.Blocks.{allocated_word, committed_word, consumed_word, reserved_word}
 use Rattle.bbq_core.specs.Counts.{makes, one_below, taken_count, takes}
 use Rattle.bbq_core.specs.Alone.{IsStill}
-use Rattle.bbq_core.proofs.Views.{get_replicate}
+use Rattle.bbq_core.specs.declared.phase.Phase.{Phase}
+use Rattle.machine.proofs.Turns.{start_total}
+use Rattle.machine.proofs.Lists.{get_replicate}
 use Rattle.bbq_core.proofs.Facts.{none_from}
 use Rattle.bbq_core.proofs.TakeFacts.{reserved_made}
-use Rattle.bbq_core.proofs.Runs.{start_total}
 use Rattle.bbq_core.proofs.Lone.{allocated_is, allocated_number, committed_is, consumed_is, consumer_is, made_is, only_none, producer_is, reserved_is, reserved_number, taken_is}
 use Rattle.bbq_core.proofs.AttendedRuns.{start_attended}
 
@@ -67,6 +68,6 @@ start_still g limits =
       sound = s.sound;
       manned = s.manned;
       rest = λ j u at. sym (ap (λ (v : View). v.phase) (get_replicate g.seats (resting g) j u at));
-      made = start_total g;
+      made = start_total Phase g;
       taken = let e = sum_by-replicate taken_count g.seats (resting g) in omega (arith, e);
     }

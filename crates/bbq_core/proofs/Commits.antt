@@ -1,33 +1,30 @@
 -- A place is committed: one more of its block is made.
 use Rattle.std.proofs.Common.{◌≡◌, ℕ, zero, suc, ◌+◌, ◌-◌, ◌*◌, ◌/◌, ◌%◌, ◌^◌, ◌<◌, ◌≤◌, ◌≢◌, ◌⊎◌, List, [], ◌∷◌, ◌++◌, length, refl, sym, ap, ◌∙◌, subst, inl, inr, ⊎_elim, arith}
 use Rattle.std.specs.Prelude.{Option, Some, slice_get, slice_set, slice_index}
-use Rattle.std.proofs.lemmas.List.{length-set, get_or-set_same, get_or-set_other, append-nil}
+use Rattle.std.proofs.lemmas.List.{length-set, get_or-set_same, get_or-set_other, append-nil, map-append}
 use Rattle.std.proofs.lemmas.Bool.{cases_eq, cases_lt}
 use Rattle.std.proofs.lemmas.Bool.Decides.{nat_tests}
-use Rattle.std.proofs.lemmas.Nat.{mod_below}
+use Rattle.std.proofs.lemmas.Nat.{mod_below, div-mul-add, mod-mul-add, same_from_place}
 use Rattle.cursor_word.specs.Shape.{Grid, IsWithinLimits}
 use Rattle.cursor_word.specs.declared.cursor.Cursor.{Cursor}
 use Rattle.rail.specs.declared.entry.Placed.{Placed}
 use Rattle.rail.specs.Items.{IsRising, placed, places}
 use Rattle.bbq_core.specs.declared.phase.Phase.{Phase}
 use Rattle.bbq_core.specs.declared.phase.Phase.TheVariants.{Commit}
-use Rattle.bbq_core.specs.declared.view.View.{View}
+use Rattle.bbq_core.specs.Types.{View}
 use Rattle.bbq_core.specs.Machine.{view_after, words_after}
 use Rattle.bbq_core.specs.Blocks.{Newest, allocated_word, committed_word, consumed_word, place, reserved_word}
 use Rattle.bbq_core.specs.Counts.{adds, adds_in, claim_count, claimed, claims, fetch_count, fetched, fetches, held, makes, one_at, one_below, sum_below, takes, times}
 use Rattle.bbq_core.specs.Sound.{HasWords, HoldsWords, IsSoundAt, PutFits}
-use Rattle.bbq_core.proofs.Views.{sum_set, times_push}
+use Rattle.bbq_core.proofs.Views.{times_push}
+use Rattle.machine.proofs.Lists.{sum_set}
 use Rattle.cursor_word.proofs.Blocks.{same_near}
-use Rattle.bbq_core.proofs.Frames.{adds_bound, after_put, fetched_idle, made_kept, Grows, fits_grows, sum_same, takes_same, upto_same}
+use Rattle.bbq_core.proofs.Frames.{adds_bound, after_put, fetched_idle, made_kept, Grows, fits_grows, sum_same, takes_same, upto_same, words_same}
 use Rattle.bbq_core.proofs.Quiet.{fits_at, is_putting}
-use Rattle.bbq_core.proofs.Facts.{none_from, one_to, physical}
-use Rattle.std.proofs.lemmas.Nat.{div-mul-add, mod-mul-add, same_from_place}
+use Rattle.bbq_core.proofs.Facts.{none_from, one_to, physical, one_in}
 use Rattle.std.proofs.lemmas.List.Sums.{sum_by-append, sum_by-cons, sum_by-le-sum_by}
-use Rattle.std.proofs.lemmas.List.{map-append}
 use Rattle.std.specs.List.{sum_by}
-use Rattle.cursor_word.specs.Cursor.{offset_span, place_at}
-use Rattle.bbq_core.proofs.Facts.{one_in}
-use Rattle.bbq_core.proofs.Frames.{words_same}
+use Rattle.cursor_word.specs.Cursor.{most_block, offset_span, place_at}
 use Rattle.bbq_core.proofs.Draws.{IsUp, up_le, word_up}
 
 -- between two sums there is at least what is between them at one view
@@ -88,7 +85,7 @@ get_push (z ∷ xs) x zero y e = inl e
 get_push (z ∷ xs) x (suc i) y e = get_push xs x i y e
 
 -- one added to the committed cursor
-pub keeps_Commit : (g : Grid) (K J a t : ℕ) (ws : List ℕ) (vs : List View) (id : ℕ) (v : View) (at : Cursor) → IsWithinLimits g → IsSoundAt g K J a t ws vs → K < 2 ^ 47 → slice_get vs id ≡ Some v
+pub keeps_Commit : (g : Grid) (K J a t : ℕ) (ws : List ℕ) (vs : List View) (id : ℕ) (v : View) (at : Cursor) → IsWithinLimits g → IsSoundAt g K J a t ws vs → K ≤ most_block → slice_get vs id ≡ Some v
     → v.phase ≡ Some (Commit at) → IsSoundAt g K J a t (words_after g ws v (Commit at)) (slice_set vs id (view_after g ws v (Commit at)))
 keeps_Commit g K J a t ws vs id v at limits s small here e =
     let p : ℕ = place_at g at in

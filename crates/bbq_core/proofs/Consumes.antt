@@ -1,10 +1,10 @@
 -- Words are read, and the entry is consumed.
 use Rattle.std.proofs.Common.{◌≡◌, ℕ, ◌+◌, ◌-◌, ◌*◌, ◌/◌, ◌%◌, ◌^◌, ◌<◌, ◌≤◌, List, [], ◌∷◌, ◌++◌, length, refl, sym, ap, ◌∙◌, subst, inl, ⊎_elim, arith}
-use Rattle.std.specs.Prelude.{Some, slice_get, slice_set, slice_index}
-use Rattle.std.proofs.lemmas.List.{length-set, set-get_or, get_or-set_same, get_or-set_other, append-nil}
+use Rattle.std.specs.Prelude.{Some, slice_get, slice_set, slice_index, take}
+use Rattle.std.proofs.lemmas.List.{length-set, set-get_or, get_or-set_same, get_or-set_other, append-nil, map-append, take_all, take_more}
 use Rattle.std.proofs.lemmas.Bool.{cases_eq, cases_lt}
 use Rattle.std.proofs.lemmas.Bool.Decides.{nat_tests}
-use Rattle.std.proofs.lemmas.Nat.{mod_below}
+use Rattle.std.proofs.lemmas.Nat.{mod_below, div-mul-add, mod-mul-add}
 use Rattle.cursor_word.specs.Shape.{Grid, IsWithinLimits}
 use Rattle.cursor_word.specs.declared.cursor.Cursor.{Cursor}
 use Rattle.rail.specs.declared.entry.Placed.{Placed}
@@ -12,10 +12,9 @@ use Rattle.rail.specs.Items.{IsRising, placed, places}
 use Rattle.bbq_core.specs.declared.phase.Phase.TheVariants.{Take}
 use Rattle.bbq_core.specs.declared.take_phase.TakePhase.TheVariants.{Read, Consume}
 use Rattle.std.specs.List.{sum_by}
-use Rattle.cursor_word.specs.Cursor.{offset_span, place_at}
-use Rattle.bbq_core.specs.declared.view.View.{View}
-use Rattle.bbq_core.specs.declared.op.After.{After}
-use Rattle.bbq_core.specs.declared.op.After.TheVariants.{Next}
+use Rattle.cursor_word.specs.Cursor.{most_block, offset_span, place_at}
+use Rattle.bbq_core.specs.Types.{View, After}
+use Rattle.machine.specs.declared.op.After.TheVariants.{Next}
 use Rattle.bbq_core.specs.Machine.{phase_after, view_after, words_after}
 use Rattle.bbq_core.specs.Blocks.{NewestTaken, allocated_word, committed_word, consumed_word, place, reserved_word}
 use Rattle.bbq_core.specs.Counts.{IsTaking, claim_count, claimed, claims, fetch_count, fetched, fetches, makes, one_at, reading, sum_below, takes, times}
@@ -23,14 +22,12 @@ use Rattle.bbq_core.specs.Sound.{HasWords, IsCurrent, IsMade, IsSoundAt, TakerKn
 use Rattle.bbq_core.proofs.TakeLoads.{pick_less}
 use Rattle.bbq_core.proofs.TakeFacts.{made_counts}
 use Rattle.bbq_core.proofs.TakeFrames.{idle_adds, after_taking, claimed_idle, is_taking, knows_at, took}
-use Rattle.bbq_core.proofs.Views.{sum_set, times_push}
+use Rattle.bbq_core.proofs.Views.{times_push}
+use Rattle.machine.proofs.Lists.{sum_set}
 use Rattle.cursor_word.proofs.Blocks.{same_near}
 use Rattle.bbq_core.proofs.Frames.{adds_bound, counts_quiet, made_same, take_phase_grows, takes_grow, sum_same, upto_same}
 use Rattle.bbq_core.proofs.Facts.{one_to, physical}
-use Rattle.std.specs.Prelude.{take}
-use Rattle.std.proofs.lemmas.Nat.{div-mul-add, mod-mul-add}
 use Rattle.std.proofs.lemmas.List.Sums.{sum_by-le-sum_by}
-use Rattle.std.proofs.lemmas.List.{map-append, take_all, take_more}
 use Rattle.cursor_word.specs.Layout.{entry_index}
 use Rattle.bbq_core.proofs.Draws.{IsUp, up_le, word_up}
 use Rattle.bbq_core.proofs.Commits.{bumped, get_push, one_apart, sum_gap, upto_misses}
@@ -122,7 +119,7 @@ keeps_Read g K J a t ws vs id v at next limits s here e =
     reads g K J a t ws vs id v at next i (Next (Take (Consume at))) w (v.read ++ w ∷ []) s here e tt refl (cur, subst (λ (z : List ℕ). IsMade vs (placed (place_at g at) z)) (sym all) of.made))
 
 -- one added to the consumed cursor
-pub keeps_Consume : (g : Grid) (K J a t : ℕ) (ws : List ℕ) (vs : List View) (id : ℕ) (v : View) (at : Cursor) → IsWithinLimits g → IsSoundAt g K J a t ws vs → K < 2 ^ 47 → slice_get vs id ≡ Some v
+pub keeps_Consume : (g : Grid) (K J a t : ℕ) (ws : List ℕ) (vs : List View) (id : ℕ) (v : View) (at : Cursor) → IsWithinLimits g → IsSoundAt g K J a t ws vs → K ≤ most_block → slice_get vs id ≡ Some v
     → v.phase ≡ Some (Take (Consume at)) → IsSoundAt g K J a t (words_after g ws v (Take (Consume at))) (slice_set vs id (view_after g ws v (Take (Consume at))))
 keeps_Consume g K J a t ws vs id v at limits s small here e =
     let p : ℕ = place_at g at in

@@ -1,37 +1,34 @@
 -- A number is drawn from the allocated cursor: the next place, or none where the block was filled.
 use Rattle.std.proofs.Common.{◌≡◌, ℕ, ◌+◌, ◌*◌, ◌/◌, ◌%◌, ◌^◌, ◌<◌, ◌≤◌, ◌≢◌, ◌⊎◌, min, List, [], ◌∷◌, ◌++◌, length, refl, sym, ap, ◌∙◌, subst, inl, inr, ⊎_elim, arith}
 use Rattle.std.specs.Prelude.{Some, slice_get, slice_set, slice_index, if◌then◌else◌, ◌==◌}
-use Rattle.std.proofs.lemmas.List.{length-set, get_or-set_same, get_or-set_other, append-nil}
+use Rattle.std.proofs.lemmas.List.{length-set, get_or-set_same, get_or-set_other, append-nil, length-append}
 use Rattle.std.proofs.lemmas.Bool.{cases_eq}
 use Rattle.std.proofs.lemmas.Bool.Decides.{nat_tests}
-use Rattle.std.proofs.lemmas.Nat.{mod_below}
+use Rattle.std.proofs.lemmas.Nat.{mod_below, div-mul-add, mod-mul-add}
 use Rattle.cursor_word.specs.Shape.{Grid, IsWithinLimits}
-use Rattle.cursor_word.specs.Cursor.{offset_span, unpacked}
+use Rattle.cursor_word.specs.Cursor.{most_block, offset_span, unpacked}
 use Rattle.cursor_word.specs.declared.cursor.Cursor.{Cursor}
 use Rattle.rail.specs.declared.entry.Placed.{Placed}
 use Rattle.rail.specs.Items.{IsRising, places}
 use Rattle.bbq_core.specs.declared.phase.Phase.TheVariants.{AddA, Write}
-use Rattle.bbq_core.specs.declared.view.View.{View}
-use Rattle.bbq_core.specs.declared.op.After.{After}
-use Rattle.bbq_core.specs.declared.op.After.TheVariants.{Next}
+use Rattle.bbq_core.specs.Types.{View, After}
+use Rattle.machine.specs.declared.op.After.TheVariants.{Next}
 use Rattle.bbq_core.specs.PutSteps.{filled}
 use Rattle.bbq_core.specs.Machine.{view_after, words_after}
 use Rattle.bbq_core.specs.Blocks.{Newest, PutWords, allocated_word, committed_word, consumed_word, place, reserved_word}
 use Rattle.bbq_core.specs.Counts.{Counts, adds, adds_in, claim_count, claimed, claims, fetch_count, fetched, fetches, makes, one_at, one_below, takes, times}
 use Rattle.bbq_core.specs.Sound.{IsSoundAt, PutFits}
-use Rattle.bbq_core.proofs.Views.{by_test, rising_push, sum_set, times_push}
+use Rattle.bbq_core.proofs.Views.{by_test, rising_push, times_push}
+use Rattle.machine.proofs.Lists.{sum_set}
 use Rattle.cursor_word.proofs.Blocks.{latest_is, same_near}
-use Rattle.bbq_core.proofs.Frames.{adds_bound, after_put, fetched_idle, made_same, ended, fits_grows, sum_same, takes_same, upto_same}
+use Rattle.bbq_core.proofs.Frames.{adds_bound, after_put, fetched_idle, made_same, ended, fits_grows, sum_same, takes_same, upto_same, filled_grows}
 use Rattle.bbq_core.proofs.Quiet.{fits_at, holds_none, is_putting, quiet}
 use Rattle.bbq_core.proofs.Facts.{IsFound, allocated_below, found, found_filled, physical}
-use Rattle.std.proofs.lemmas.Nat.{div-mul-add, mod-mul-add}
-use Rattle.std.proofs.lemmas.List.{length-append}
 use Rattle.std.specs.List.{sum_by}
-use Rattle.bbq_core.proofs.Frames.{filled_grows}
 use Rattle.bbq_core.proofs.Loads.{filled_next, made_below}
 
 -- a cursor's word, and one more
-pub word_up : (w : ℕ) → w / offset_span < 2 ^ 47 → w % offset_span + 1 < offset_span → ((w + 1) % 2 ^ 64 / offset_span ≡ w / offset_span) × ((w + 1) % 2 ^ 64 % offset_span ≡ w % offset_span + 1)
+pub word_up : (w : ℕ) → w / offset_span ≤ most_block → w % offset_span + 1 < offset_span → ((w + 1) % 2 ^ 64 / offset_span ≡ w / offset_span) × ((w + 1) % 2 ^ 64 % offset_span ≡ w % offset_span + 1)
 word_up w block low =
     let w' : (w + 1) % 2 ^ 64 ≡ (w / offset_span) * offset_span + (w % offset_span + 1) = omega arith in
     (ap (λ (k : ℕ). k / offset_span) w' ∙ div-mul-add (w / offset_span) offset_span (w % offset_span + 1) low, ap (λ (k : ℕ). k % offset_span) w' ∙ mod-mul-add (w / offset_span) offset_span (w % offset_span + 1) low)
@@ -78,7 +75,7 @@ offset_fits g K J a t ws vs h limits s le =
     let c = s.counts.adds _ l.to l.near in
     let r = ap (λ (w : ℕ). w % offset_span) e in omega (arith, limits.size_to, limits.seats_to)
 
-pub ups : (g : Grid) (K J a t : ℕ) (ws : List ℕ) (vs : List View) (h : ℕ) → IsWithinLimits g → IsSoundAt g K J a t ws vs → K < 2 ^ 47 → h ≤ K
+pub ups : (g : Grid) (K J a t : ℕ) (ws : List ℕ) (vs : List View) (h : ℕ) → IsWithinLimits g → IsSoundAt g K J a t ws vs → K ≤ most_block → h ≤ K
     → IsUp g h (allocated_word g ws) (allocated_word g (slice_set ws (2 + 4 * (h % g.blocks)) ((slice_index ws (2 + 4 * (h % g.blocks)) + 1) % 2 ^ 64)))
 ups g K J a t ws vs h limits s small le =
     let i : ℕ = 2 + 4 * (h % g.blocks) in
@@ -128,7 +125,7 @@ up_drawn g K a P h A A' M pos u p is less =
     }
 
 -- one added to the allocated cursor, where the block was filled
-draws_none : (g : Grid) (K J a t : ℕ) (ws : List ℕ) (vs : List View) (id : ℕ) (v : View) (turn : ℕ) (first : Cursor) (head : ℕ) → IsWithinLimits g → IsSoundAt g K J a t ws vs → K < 2 ^ 47 → slice_get vs id ≡ Some v
+draws_none : (g : Grid) (K J a t : ℕ) (ws : List ℕ) (vs : List View) (id : ℕ) (v : View) (turn : ℕ) (first : Cursor) (head : ℕ) → IsWithinLimits g → IsSoundAt g K J a t ws vs → K ≤ most_block → slice_get vs id ≡ Some v
     → v.phase ≡ Some (AddA turn first head) → (let w = allocated_word g ws head in g.size ≤ w % offset_span
     → IsSoundAt g K J a t (slice_set ws (2 + 4 * (head % g.blocks)) ((w + 1) % 2 ^ 64)) (slice_set vs id (ended v (filled turn first (unpacked w)) w)))
 draws_none g K J a t ws vs id v turn first head limits s small at e le =
@@ -151,7 +148,7 @@ draws_none g K J a t ws vs id v turn first head limits s small at e le =
     (filled_next g K _ _ _ _ ws' v.made v.entry (turn == 1) (unpacked w) _ (filled_grows g _ _ (unpacked w) (up_le g head _ _ u) (found_filled g K a _ head (physical g ws 2) f.1 is le)))
 
 -- one added to the allocated cursor, where a place was free
-draws_next : (g : Grid) (K J a t : ℕ) (ws : List ℕ) (vs : List View) (id : ℕ) (v : View) (turn : ℕ) (first : Cursor) (head : ℕ) → IsWithinLimits g → IsSoundAt g K J a t ws vs → K < 2 ^ 47 → slice_get vs id ≡ Some v
+draws_next : (g : Grid) (K J a t : ℕ) (ws : List ℕ) (vs : List View) (id : ℕ) (v : View) (turn : ℕ) (first : Cursor) (head : ℕ) → IsWithinLimits g → IsSoundAt g K J a t ws vs → K ≤ most_block → slice_get vs id ≡ Some v
     → v.phase ≡ Some (AddA turn first head) → (let w = allocated_word g ws head in w % offset_span < g.size
     → IsSoundAt g K J (a + 1) t (slice_set ws (2 + 4 * (head % g.blocks)) ((w + 1) % 2 ^ 64)) (slice_set vs id (ended v (Next (Write (unpacked w) 0)) w)))
 draws_next g K J a t ws vs id v turn first head limits s small at e less =
@@ -196,7 +193,7 @@ draws_next g K J a t ws vs id v turn first head limits s small at e less =
     }
 
 -- one added to the allocated cursor: one more place is allocated, or none
-pub keeps_AddA : (g : Grid) (K J a t : ℕ) (ws : List ℕ) (vs : List View) (id : ℕ) (v : View) (turn : ℕ) (first : Cursor) (head : ℕ) → IsWithinLimits g → IsSoundAt g K J a t ws vs → K < 2 ^ 47 → slice_get vs id ≡ Some v
+pub keeps_AddA : (g : Grid) (K J a t : ℕ) (ws : List ℕ) (vs : List View) (id : ℕ) (v : View) (turn : ℕ) (first : Cursor) (head : ℕ) → IsWithinLimits g → IsSoundAt g K J a t ws vs → K ≤ most_block → slice_get vs id ≡ Some v
     → v.phase ≡ Some (AddA turn first head) → (b : ℕ) × (b ≤ a + 1) × IsSoundAt g K J b t (words_after g ws v (AddA turn first head)) (slice_set vs id (view_after g ws v (AddA turn first head)))
 keeps_AddA g K J a t ws vs id v turn first head limits s small at e =
     let w : ℕ = allocated_word g ws head in

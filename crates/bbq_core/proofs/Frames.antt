@@ -15,13 +15,13 @@ use Rattle.bbq_core.specs.declared.phase.Phase.{Phase}
 use Rattle.bbq_core.specs.declared.phase.Phase.TheVariants.{HeadP, SeeA, AddA, Write, Commit, SeeX, SeeR, OpenM, OpenA, RaiseP, Take}
 use Rattle.bbq_core.specs.declared.take_phase.TakePhase.{TakePhase}
 use Rattle.bbq_core.specs.declared.take_phase.TakePhase.TheVariants.{HeadC, SeeRes, SeeCom, SeeAll, Reserve, Read, Consume, NextCom, OpenX, OpenR, RaiseC}
-use Rattle.bbq_core.specs.declared.view.View.{View}
-use Rattle.bbq_core.specs.declared.op.After.{After}
+use Rattle.bbq_core.specs.Types.{View, After}
 use Rattle.bbq_core.specs.Machine.{answer_after, phase_after}
 use Rattle.bbq_core.specs.Blocks.{PutWords, TakeWords, allocated_word, committed_word, consumed_word, place, reserved_word}
 use Rattle.bbq_core.specs.Counts.{Counts, IsPutting, adds, adds_in, claim_count, claimed, claims, fetch_count, fetched, fetches, makes, reading, sum_below, takes, times}
 use Rattle.bbq_core.specs.Sound.{HasWords, HoldsWords, IsFilled, IsMade, IsPassed, IsReserved, IsSoundAt, MadeTo, PutFits, PutKnows, TakeFits, TakeKnows, TakeTurn, TakerKnows, TurnFits}
-use Rattle.bbq_core.proofs.Views.{get_set, get_set_other, get_set_same, one_le, sum_set}
+use Rattle.bbq_core.proofs.Views.{one_le}
+use Rattle.machine.proofs.Lists.{get_set, get_set_other, get_set_same, sum_set}
 
 -- the view after a step that commits nothing, from what follows it
 abbrev pub ended : View → After → ℕ → View

@@ -11,15 +11,16 @@ use Rattle.rail.specs.declared.entry.Placed.{Placed}
 use Rattle.rail.specs.Items.{places}
 use Rattle.bbq_core.specs.declared.phase.Phase.{Phase}
 use Rattle.bbq_core.specs.declared.phase.Phase.TheVariants.{SeeA, AddA, SeeX, SeeR, OpenM}
-use Rattle.bbq_core.specs.declared.view.View.{View}
+use Rattle.bbq_core.specs.Types.{View}
 use Rattle.rail.specs.declared.answer.Answer.{Answer}
-use Rattle.bbq_core.specs.declared.op.After.TheVariants.{Next, Done}
+use Rattle.machine.specs.declared.op.After.TheVariants.{Next, Done}
 use Rattle.bbq_core.specs.PutSteps.{after, consumed_or_not, filled, older_consumed}
 use Rattle.bbq_core.specs.Machine.{view_after, words_after}
 use Rattle.bbq_core.specs.Blocks.{allocated_word, committed_word, consumed_word, place}
 use Rattle.bbq_core.specs.Counts.{claims, held, one_at, times}
 use Rattle.bbq_core.specs.Sound.{IsFilled, IsSoundAt}
-use Rattle.bbq_core.proofs.Views.{by_test, by_test_le, one_le_sum}
+use Rattle.bbq_core.proofs.Views.{by_test, by_test_le}
+use Rattle.machine.proofs.Lists.{one_le_sum}
 use Rattle.bbq_core.proofs.Quiet.{IsNext, done_next, fits_at, holds_none, is_putting, loads}
 use Rattle.bbq_core.proofs.Facts.{IsPhysical, all_below, allocated_to, filled_opened, found, found_filled, none_from, opened_spent, physical, repacked}
 

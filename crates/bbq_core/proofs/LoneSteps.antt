@@ -1,22 +1,23 @@
 -- A step of a seat that is alone: how it goes on, or comes to rest.
-use Rattle.std.proofs.Common.{◌≡◌, ℕ, ◌+◌, ◌/◌, ◌^◌, ◌<◌, List, length, sym, ap, ◌∙◌, subst, ⊎_elim, arith, []}
+use Rattle.std.proofs.Common.{◌≡◌, ℕ, ◌+◌, ◌/◌, ◌≤◌, List, length, sym, ap, ◌∙◌, subst, ⊎_elim, arith, []}
 use Rattle.std.specs.Prelude.{Some, None, slice_get, slice_set, slice_index}
 use Rattle.std.specs.List.{sum_by}
 use Rattle.std.proofs.lemmas.List.{set-get_or}
 use Rattle.cursor_word.specs.Shape.{Grid, IsWithinLimits}
-use Rattle.cursor_word.specs.Cursor.{offset_span}
+use Rattle.cursor_word.specs.Cursor.{most_block, offset_span}
 use Rattle.rail.specs.declared.entry.Placed.{Placed}
 use Rattle.bbq_core.specs.declared.phase.Phase.{Phase}
-use Rattle.bbq_core.specs.declared.op.After.{After}
-use Rattle.bbq_core.specs.declared.view.View.{View}
+use Rattle.bbq_core.specs.Types.{After, View}
 use Rattle.bbq_core.specs.PutSteps.{after, want}
-use Rattle.bbq_core.specs.Machine.{index, view_after, words_after}
+use Rattle.bbq_core.specs.Machine.{view_after, words_after}
+use Rattle.machine.specs.Ops.{index}
 use Rattle.bbq_core.specs.Blocks.{allocated_word, reserved_word}
-use Rattle.bbq_core.specs.Counts.{made_total, taken_total, held, made_count, makes, one_below, reading, taken_count, takes}
+use Rattle.bbq_core.specs.Counts.{taken_total, held, makes, one_below, reading, taken_count, takes}
+use Rattle.machine.specs.Invariant.{made_total, made_count}
 use Rattle.bbq_core.specs.Sound.{IsSoundAt}
 use Rattle.bbq_core.specs.Manned.{IsAttended, IsManned, opens_allocated, opens_reserved, raises_consumer, raises_producer}
 use Rattle.bbq_core.specs.Alone.{GoesOnAlone, IsAlone, IsStill, LoneKnows, OthersRest}
-use Rattle.bbq_core.proofs.Views.{get_set, get_set_other, sum_set}
+use Rattle.machine.proofs.Lists.{get_set, get_set_other, sum_set}
 use Rattle.bbq_core.proofs.TakeFrames.{took}
 use Rattle.bbq_core.proofs.Manned.{one_state}
 use Rattle.bbq_core.proofs.Attends.{attends_at}
@@ -26,7 +27,7 @@ use Rattle.bbq_core.proofs.Lone.{only_one, allocated_is, allocated_number, produ
 pub record IsHere (g : Grid) (n t K J a u : ℕ) (ws : List ℕ) (vs : List View) (id : ℕ) (v : View) (p : Phase) : Type 0 where
   pub limits : IsWithinLimits g
   pub sound : IsSoundAt g K J a u ws vs
-  pub small : K < 2 ^ 47
+  pub small : K ≤ most_block
   pub manned : IsManned g K J ws vs
   pub at : slice_get vs id ≡ Some v
   pub phase : v.phase ≡ Some p

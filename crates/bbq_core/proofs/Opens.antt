@@ -6,31 +6,29 @@ use Rattle.std.proofs.lemmas.Bool.{cases_lt}
 use Rattle.std.proofs.lemmas.Bool.Decides.{nat_tests}
 use Rattle.std.proofs.lemmas.Nat.{mod_below}
 use Rattle.cursor_word.specs.Shape.{Grid, IsWithinLimits}
-use Rattle.cursor_word.specs.Cursor.{offset_span, packed}
+use Rattle.cursor_word.specs.Cursor.{offset_span, packed, place_at}
 use Rattle.cursor_word.specs.declared.cursor.Cursor.{Cursor}
 use Rattle.rail.specs.declared.entry.Placed.{Placed}
 use Rattle.rail.specs.Items.{IsRising, places}
 use Rattle.bbq_core.specs.declared.phase.Phase.{Phase}
 use Rattle.bbq_core.specs.declared.phase.Phase.TheVariants.{Write, Commit, OpenM, OpenA}
-use Rattle.bbq_core.specs.declared.view.View.{View}
-use Rattle.bbq_core.specs.declared.op.After.TheVariants.{Next}
+use Rattle.bbq_core.specs.Types.{View}
+use Rattle.machine.specs.declared.op.After.TheVariants.{Next}
 use Rattle.bbq_core.specs.PutSteps.{older_consumed}
 use Rattle.bbq_core.specs.Machine.{view_after, words_after}
 use Rattle.bbq_core.specs.Blocks.{PutWords, TakeWords, allocated_word, committed_word, consumed_word, place, reserved_word}
 use Rattle.bbq_core.specs.Counts.{adds, adds_in, claim_count, claimed, claims, fetch_count, fetched, fetches, held, makes, one_at, reading, sum_below, takes, times}
 use Rattle.bbq_core.specs.Sound.{IsCurrent, IsSoundAt, PutFits, PutKnows}
-use Rattle.bbq_core.proofs.Views.{sum_set, times_push}
+use Rattle.bbq_core.proofs.Views.{times_push}
+use Rattle.machine.proofs.Lists.{sum_set}
 use Rattle.cursor_word.proofs.Blocks.{latest_is, same_near, shifted}
-use Rattle.bbq_core.proofs.Frames.{after_put, fetched_idle, made_same, ended, fits_grows, sum_same, takes_same, upto_same}
+use Rattle.bbq_core.proofs.Frames.{after_put, fetched_idle, made_same, ended, fits_grows, sum_same, takes_same, upto_same, filled_grows}
 use Rattle.bbq_core.proofs.Quiet.{fits_at, holds_none, is_putting, loads}
-use Rattle.bbq_core.proofs.Facts.{IsPhysical, filled_opened, none_from, one_to, physical}
+use Rattle.bbq_core.proofs.Facts.{IsPhysical, filled_opened, none_from, one_to, physical, place_next}
 use Rattle.std.proofs.lemmas.List.Sums.{sum_by-append, sum_by-le-sum_by}
 use Rattle.std.specs.List.{sum_by}
-use Rattle.cursor_word.specs.Cursor.{place_at}
-use Rattle.bbq_core.proofs.Facts.{place_next}
 use Rattle.bbq_core.proofs.Commits.{makes_le, sum_gap, upto_misses}
 use Rattle.bbq_core.proofs.Raises.{raised}
-use Rattle.bbq_core.proofs.Frames.{filled_grows}
 
 pub upto_none : (n : ℕ) (f : ℕ → ℕ) → ((o : ℕ) → f o ≡ 0) → sum_below n f ≡ 0
 upto_none zero f h = refl

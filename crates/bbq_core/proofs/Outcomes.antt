@@ -19,18 +19,19 @@ use Rattle.rail.specs.declared.answer.Why.TheVariants as why
 use Rattle.bbq_core.specs.declared.phase.Phase.{Phase}
 use Rattle.bbq_core.specs.declared.phase.Phase.TheVariants.{HeadP, SeeA, AddA, Write, Commit, SeeX, SeeR, OpenM, OpenA, RaiseP, Take}
 use Rattle.bbq_core.specs.declared.take_phase.TakePhase.TheVariants.{HeadC, SeeRes, SeeCom, SeeAll, Reserve, Read, Consume, NextCom, OpenX, OpenR, RaiseC}
-use Rattle.bbq_core.specs.declared.op.After.{After}
-use Rattle.bbq_core.specs.declared.op.After.TheVariants.{Next, Done}
+use Rattle.bbq_core.specs.Types.{After, View, MachineState}
+use Rattle.machine.specs.declared.op.After.TheVariants.{Next, Done}
 use Rattle.rail.specs.declared.answer.Answer.TheVariants as answer
-use Rattle.bbq_core.specs.declared.view.View.{View}
 use Rattle.bbq_core.specs.PutSteps.{after, filled, older_consumed, want}
-use Rattle.bbq_core.specs.Machine.{MachineState, index, made_after, taken_after}
+use Rattle.bbq_core.specs.Machine.{made_after, taken_after}
+use Rattle.machine.specs.Ops.{index}
 use Rattle.bbq_core.specs.Blocks.{allocated_word, committed_word, consumed_word, place, reserved_word}
 use Rattle.bbq_core.specs.Counts.{fetches, held, makes, one_at, reading, times}
 use Rattle.bbq_core.specs.Sound.{IsFilled, IsMade, IsSound, IsSoundAt, TakeKnows, TurnFits}
 use Rattle.bbq_core.specs.Moments.{EmptyAt, FullAt}
 use Rattle.bbq_core.specs.Causes.{Differ}
-use Rattle.bbq_core.proofs.Views.{by_test_le, not_there, one_le_sum, times-cons, two_le_sum}
+use Rattle.bbq_core.proofs.Views.{by_test_le, not_there, times-cons, two_le_sum}
+use Rattle.machine.proofs.Lists.{one_le_sum}
 use Rattle.bbq_core.proofs.Stores.{counted}
 use Rattle.cursor_word.proofs.Blocks.{latest, latest_is, same_block}
 use Rattle.bbq_core.proofs.Facts.{all_below, committed_below, found, none_from, one_in, one_to, physical, repacked}

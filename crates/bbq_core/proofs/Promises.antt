@@ -8,9 +8,9 @@ use Rattle.rail.specs.declared.answer.Take.TheVariants as take
 use Rattle.rail.specs.declared.answer.Answer.TheVariants as answer
 use Rattle.rail.specs.Rail.{Puts, Takes}
 use Rattle.bbq_core.specs.declared.phase.Phase.{Phase}
-use Rattle.bbq_core.specs.declared.op.After.TheVariants.{Done}
-use Rattle.bbq_core.specs.declared.view.View.{View}
-use Rattle.bbq_core.specs.Machine.{MachineState, made_after, taken_after}
+use Rattle.machine.specs.declared.op.After.TheVariants.{Done}
+use Rattle.bbq_core.specs.Types.{View, MachineState}
+use Rattle.bbq_core.specs.Machine.{made_after, taken_after}
 use Rattle.bbq_core.proofs.Outcomes.{Tells}
 use Rattle.bbq_core.proofs.Trails.{TrailShows, busy_told}
 

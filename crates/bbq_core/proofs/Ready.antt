@@ -8,10 +8,10 @@ use Rattle.rail.specs.Items.{placed}
 use Rattle.bbq_core.specs.declared.phase.Phase.{Phase}
 use Rattle.bbq_core.specs.declared.phase.Phase.TheVariants.{HeadP, SeeA, AddA, Write, Commit, SeeX, SeeR, OpenM, OpenA, RaiseP, Take}
 use Rattle.bbq_core.specs.declared.take_phase.TakePhase.TheVariants.{HeadC, SeeRes, SeeCom, SeeAll, Reserve, Read, Consume, NextCom, OpenX, OpenR, RaiseC}
-use Rattle.bbq_core.specs.declared.view.View.{View}
+use Rattle.bbq_core.specs.Types.{View}
 use Rattle.bbq_core.specs.TakeSteps.{IsTurn}
 use Rattle.bbq_core.specs.Blocks.{allocated_word, committed_word, consumed_word, reserved_word}
-use Rattle.bbq_core.specs.Counts.{made_total}
+use Rattle.machine.specs.Invariant.{made_total}
 use Rattle.bbq_core.specs.Sound.{CanStep, IsCurrent, IsFilled, IsMade, IsSound, IsSoundAt, PutKnows, TakeTurn, TakerKnows, TurnFits}
 use Rattle.bbq_core.proofs.Facts.{filled_opened, physical}
 use Rattle.bbq_core.proofs.TakeFacts.{reserved_below}
@@ -63,11 +63,11 @@ module _ (g : Grid) (K J a t : ℕ) (ws : List ℕ) (vs : List View) (limits : I
   ready v (Take (OpenR sp)) k q wide = record { range = known_in sp q.0.from q.0.known; found = tt; wide = wide; read = tt }
   ready v (Take (RaiseC sp)) k q wide = record { range = known_in sp q.0.from q.0.known; found = tt; wide = wide; read = tt }
 
-pub can_step : (g : Grid) (ws : List ℕ) (vs : List View) (id : ℕ) (v : View) (p : Phase) → IsWithinLimits g → IsSound g ws vs → made_total vs < place_span → slice_get vs id ≡ Some v → v.phase ≡ Some p → CanStep g ws v p
+pub can_step : (g : Grid) (ws : List ℕ) (vs : List View) (id : ℕ) (v : View) (p : Phase) → IsWithinLimits g → IsSound g ws vs → made_total vs ≤ place_span g → slice_get vs id ≡ Some v → v.phase ≡ Some p → CanStep g ws v p
 can_step g ws vs id v p limits s room at e =
-    let few = opened_few g s.opened s.passed s.allocated s.reserved ws vs limits s.at in
+    let few = opened_few g s.opened s.passed s.allocated s.reserved ws vs limits s.at room in
     let f = s.at.each id v at in
     let t = s.at.takes_each id v at in
-    ready g s.opened s.passed s.allocated s.reserved ws vs limits s.at (omega (arith, limits.blocks_to, limits.seats_to)) v p
+    ready g s.opened s.passed s.allocated s.reserved ws vs limits s.at few v p
     (subst (PutKnows g s.opened (slice_index ws 0) (allocated_word g ws) (committed_word g ws) (consumed_word g ws) v.made) e f.phase_fits)
     (subst (TakerKnows g s.passed (slice_index ws 1) (committed_word g ws) (reserved_word g ws) (consumed_word g ws) vs v.read) e t.phase_fits) f.wide

@@ -1,21 +1,19 @@
 -- A place is reserved, or was reserved by another take.
 use Rattle.std.proofs.Common.{◌≡◌, ℕ, ◌+◌, ◌*◌, ◌/◌, ◌%◌, ◌<◌, ◌≤◌, ◌≢◌, max, List, [], ◌∷◌, ◌++◌, length, refl, sym, ap, ◌∙◌, subst, inl, ⊎_elim, arith}
 use Rattle.std.specs.Prelude.{Some, slice_get, slice_set, slice_index}
-use Rattle.std.proofs.lemmas.List.{length-set, get_or-set_same, get_or-set_other, append-nil}
+use Rattle.std.proofs.lemmas.List.{length-set, get_or-set_same, get_or-set_other, append-nil, length-append}
 use Rattle.std.proofs.lemmas.Bool.{cases_lt}
 use Rattle.std.proofs.lemmas.Nat.{mod_below}
 use Rattle.cursor_word.specs.Shape.{Grid, IsWithinLimits}
-use Rattle.cursor_word.specs.Cursor.{offset_span, packed, unpacked}
+use Rattle.cursor_word.specs.Cursor.{offset_span, packed, unpacked, place_at}
 use Rattle.cursor_word.specs.declared.cursor.Cursor.{Cursor}
 use Rattle.rail.specs.Items.{IsRising, places}
 use Rattle.bbq_core.specs.declared.phase.Phase.TheVariants.{Take}
 use Rattle.bbq_core.specs.declared.take_phase.TakePhase.TheVariants.{Reserve, Read}
 use Rattle.std.specs.List.{sum_by}
-use Rattle.cursor_word.specs.Cursor.{place_at}
-use Rattle.bbq_core.specs.declared.view.View.{View}
+use Rattle.bbq_core.specs.Types.{View, After}
 use Rattle.rail.specs.declared.answer.Answer.{Answer}
-use Rattle.bbq_core.specs.declared.op.After.{After}
-use Rattle.bbq_core.specs.declared.op.After.TheVariants.{Next, Done}
+use Rattle.machine.specs.declared.op.After.TheVariants.{Next, Done}
 use Rattle.bbq_core.specs.Machine.{view_after, words_after}
 use Rattle.bbq_core.specs.Blocks.{allocated_word, committed_word, consumed_word, place, reserved_word}
 use Rattle.bbq_core.specs.Counts.{claim_count, claimed, claims, fetch_count, fetched, fetches, makes, one_at, reading, takes, times}
@@ -24,14 +22,14 @@ use Rattle.bbq_core.proofs.TakeLoads.{pick_equal}
 use Rattle.bbq_core.proofs.Raises.{raised}
 use Rattle.bbq_core.proofs.TakeFacts.{made_there, reserved_below}
 use Rattle.bbq_core.proofs.TakeFrames.{after_taking, claimed_idle, done_take, is_taking, knows_at, loads_take, reads_none, took}
-use Rattle.bbq_core.proofs.Views.{one_le_sum, rising_push, sum_set, times_push}
+use Rattle.bbq_core.proofs.Views.{rising_push, times_push}
+use Rattle.machine.proofs.Lists.{one_le_sum, sum_set}
 use Rattle.cursor_word.proofs.Blocks.{latest, latest_is, same_near}
 use Rattle.bbq_core.proofs.Frames.{adds_bound, made_same, takes_grow, sum_same, upto_same}
 use Rattle.bbq_core.proofs.Facts.{found, none_from, physical}
 use Rattle.rail.specs.declared.answer.Take.TheVariants as taking
 use Rattle.rail.specs.declared.answer.Why.TheVariants as why
 use Rattle.rail.specs.declared.answer.Answer.TheVariants as answer
-use Rattle.std.proofs.lemmas.List.{length-append}
 use Rattle.bbq_core.proofs.Draws.{below_more}
 
 -- what a take has taken is below what is reserved

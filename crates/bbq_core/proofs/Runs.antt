@@ -1,49 +1,32 @@
--- A whole schedule keeps what holds between any two steps.
-use Rattle.std.proofs.Common.{◌≡◌, ℕ, zero, suc, ◌+◌, ◌-◌, ◌*◌, ◌/◌, ◌%◌, ◌<◌, ◌≤◌, List, [], ◌∷◌, ◌++◌, length, refl, sym, ap, ◌∙◌, subst, inl, ⊎_elim, arith}
+-- Calls that begin keep the invariant, and it holds at the start.
+use Rattle.std.proofs.Common.{◌≡◌, ℕ, ◌+◌, ◌-◌, ◌*◌, ◌/◌, ◌%◌, ◌<◌, ◌≤◌, List, ◌++◌, length, refl, sym, ap, ◌∙◌, subst, inl, ⊎_elim, arith}
 use Rattle.std.specs.Prelude.{Option, Some, None, slice_get, slice_set, slice_index}
 use Rattle.std.proofs.lemmas.Bool.{cases_lt}
 use Rattle.std.proofs.lemmas.Bool.Decides.{nat_tests}
-use Rattle.std.proofs.lemmas.Nat.{mod_below}
+use Rattle.std.proofs.lemmas.Nat.{mod_below, div-mul-add}
 use Rattle.cursor_word.specs.Shape.{Grid, IsWithinLimits}
-use Rattle.cursor_word.specs.Cursor.{offset_span, place_at, place_span}
-use Rattle.cursor_word.specs.Layout.{word_count}
-use Rattle.rail.specs.Items.{IsRising, placed, places}
-use Rattle.rail.specs.Rail.{most_puts}
-use Rattle.rail.specs.declared.entry.Placed.{Placed}
+use Rattle.cursor_word.specs.Cursor.{offset_span}
+use Rattle.cursor_word.specs.Layout.{word_count, start_at, start_cursor}
+use Rattle.rail.specs.Items.{IsRising, places}
 use Rattle.bbq_core.specs.declared.phase.Phase.{Phase}
-use Rattle.bbq_core.specs.declared.phase.Phase.TheVariants.{Commit}
-use Rattle.std.specs.List.{sum_by}
-use Rattle.bbq_core.specs.declared.view.View.{View}
+use Rattle.std.specs.List.{sum_by, range_with_len}
+use Rattle.bbq_core.specs.Types.{View, MachineState}
 use Rattle.bbq_core.specs.Blocks.{allocated_word, committed_word, consumed_word, place, reserved_word}
-use Rattle.bbq_core.specs.Counts.{IsPutting, IsTaking, made_count, made_total, adds, adds_in, claim_count, claimed, claims, fetch_count, fetched, fetches, held, makes, one_below, reading, takes}
+use Rattle.bbq_core.specs.Counts.{IsPutting, IsTaking, adds, adds_in, claim_count, claimed, claims, fetch_count, fetched, fetches, held, makes, one_below, reading, takes}
 use Rattle.bbq_core.specs.Sound.{IsSound, IsSoundAt, PutFits, TakeFits}
 use Rattle.bbq_core.specs.Laws.{MadeRises, PlacesAreDense, TakenIsMade, TakenOnce, TakenRises}
 use Rattle.bbq_core.proofs.TakeFrames.{after_taking, claimed_idle}
-use Rattle.bbq_core.proofs.Frames.{counts_quiet, made_same, takes_grow}
+use Rattle.bbq_core.proofs.Frames.{counts_quiet, made_same, takes_grow, after_put, fetched_idle}
 use Rattle.bbq_core.proofs.Facts.{none_from}
-use Rattle.std.proofs.Common.{take}
-use Rattle.std.specs.List.{AllByRecursion, range_with_len}
-use Rattle.std.proofs.lemmas.List.{length-append, length-map, length-replicate}
-use Rattle.std.proofs.lemmas.Nat.{div-mul-add}
+use Rattle.std.proofs.lemmas.List.{length-map, length-replicate}
 use Rattle.std.proofs.lemmas.List.FromFn.{get_or-map-range_with_len, length-range_with_len}
 use Rattle.std.proofs.lemmas.List.Folds.{sum_by-replicate}
 use Rattle.std.proofs.Math.Nat.{mod_self, mod-eq_of_lt}
-use Rattle.cursor_word.specs.Layout.{start_at, start_cursor}
-use Rattle.bbq_core.specs.declared.event.Start.{Start}
-use Rattle.bbq_core.specs.declared.event.Start.TheVariants as start
-use Rattle.bbq_core.specs.declared.event.Event.{Event}
-use Rattle.bbq_core.specs.PutSteps.{first_put}
-use Rattle.bbq_core.specs.Machine.{IsWide, Scene, Suits, MachineState, begun, made_after, moves, resting, run, start_state, step, turn, turned, view_after, words_after}
-use Rattle.bbq_core.specs.TakeSteps.{first_take}
-use Rattle.bbq_core.proofs.Views.{get_replicate, get_set_same, one_le_sum, rising_front, set_again, set_twice, sum_set}
-use Rattle.bbq_core.proofs.Frames.{after_put, fetched_idle}
+use Rattle.machine.specs.declared.event.Start.TheVariants as start
+use Rattle.bbq_core.specs.Machine.{begun, resting, start_state}
+use Rattle.bbq_core.proofs.Views.{rising_front}
+use Rattle.machine.proofs.Lists.{get_replicate}
 use Rattle.bbq_core.proofs.Opens.{upto_none}
-use Rattle.bbq_core.proofs.Keeps.{keeps, sound}
-use Rattle.bbq_core.proofs.Turns.{begun_made}
-
--- after a seat's turn
-abbrev After_turn : Grid → MachineState → ℕ → Scene → Type 0
-After_turn g w id t = IsSound g t.words (slice_set w.views id t.view)
 
 -- a seat at rest begins a put
 pub begins_put : (g : Grid) (K J a t : ℕ) (ws : List ℕ) (vs : List View) (id : ℕ) (v : View) (entry : List ℕ) → IsSoundAt g K J a t ws vs → slice_get vs id ≡ Some v → v.phase ≡ None → length entry ≡ g.width
@@ -72,64 +55,6 @@ begins_take g K J a t ws vs id v s at e =
     (counts_quiet g K J a t (allocated_word g ws) (allocated_word g ws) (committed_word g ws) (committed_word g ws) (consumed_word g ws) (consumed_word g ws) vs id v v' s.few at s.counts (claimed_idle g v' tt ∙ sym (claimed_idle g v idle)) refl fetch refl (λ k. refl) (λ k. refl) (λ k l n. inl (omega arith)))
     (λ j u n q. takes_grow g J (slice_index ws 1) (slice_index ws 1) (committed_word g ws) (committed_word g ws) (reserved_word g ws) (reserved_word g ws) (consumed_word g ws) (consumed_word g ws) vs (slice_set vs id v') u (omega arith) (λ k. omega arith) (λ k. omega arith) (λ k. omega arith) grow (s.takes_each j u q))
     record { phase_fits = inl refl; rising = subst IsRising (sym fetch) f.rising; items = λ i item q. grow.items item (f.items i item q); unread = λ q h n. refl }
-
--- a call that begins, and its first step
-first_step : (g : Grid) (w : MachineState) (id : ℕ) (v v' : View) (p : Phase) → IsWithinLimits g → IsSound g w.words (slice_set w.views id v') → made_total (slice_set w.views id v') < place_span → slice_get w.views id ≡ Some v
-    → v'.phase ≡ Some p → After_turn g w id (moves g w.words v' (Some p))
-first_step g w id v v' p limits s room at e =
-    subst (λ (vs : List View). IsSound g (words_after g w.words v' p) vs) (set_twice w.views id v' (view_after g w.words v' p))
-    (keeps g w.words (slice_set w.views id v') id v' p limits s room (get_set_same w.views id v v' at) e)
-
--- a call that begins makes nothing
-pub total_same : (vs : List View) (id : ℕ) (v v' : View) → slice_get vs id ≡ Some v → v'.made ≡ v.made → made_total (slice_set vs id v') ≡ made_total vs
-total_same vs id v v' at e = let q = sum_set made_count vs id v v' at in let n = ap (λ (l : List Placed). length l) e in omega arith
-
-pub turns : (g : Grid) (w : MachineState) (id : ℕ) (v : View) (s : Start) (ph : Option Phase) → IsWithinLimits g → IsSound g w.words w.views → made_total w.views < place_span → slice_get w.views id ≡ Some v → v.phase ≡ ph → IsWide g s
-    → After_turn g w id (moves g w.words (begun v ph s) (begun v ph s).phase)
-turns g w id v s (Some p) l k room at e wide = subst (λ (ph : Option Phase). After_turn g w id (moves g w.words v ph)) (sym e) (keeps g w.words w.views id v p l k room at e)
-turns g w id v (start.Put entry) None l k room at e wide =
-    let v' : View = begun v None (start.Put entry) in
-    first_step g w id v v' first_put l (sound g k.opened k.passed k.allocated k.reserved _ _ (begins_put g _ _ _ _ w.words w.views id v entry k.at at e wide)) (let n = total_same w.views id v v' at refl in omega arith) at refl
-turns g w id v start.Take None l k room at e wide =
-    let v' : View = begun v None start.Take in
-    first_step g w id v v' first_take l (sound g k.opened k.passed k.allocated k.reserved _ _ (begins_take g _ _ _ _ w.words w.views id v k.at at e)) (let n = total_same w.views id v v' at refl in omega arith) at refl
-turns g w id v start.Go None l k room at e wide = subst (λ (ph : Option Phase). After_turn g w id (moves g w.words v ph)) (sym e) (subst (λ (vs : List View). IsSound g w.words vs) (sym (set_again w.views id v at)) k)
-
-turns_any : (g : Grid) (w : MachineState) (id : ℕ) (s : Start) (o : Option View) → IsWithinLimits g → IsSound g w.words w.views → made_total w.views < place_span → slice_get w.views id ≡ o → IsWide g s
-    → (let t = turn g w id s o in IsSound g t.words t.views)
-turns_any g w id s None l k room at wide = k
-turns_any g w id s (Some v) l k room at wide = turns g w id v s v.phase l k room at refl wide
-
--- an event keeps the invariant
-pub step_sound : (g : Grid) (w : MachineState) (x : Event) → IsWithinLimits g → IsSound g w.words w.views → made_total w.views < place_span → Suits g x → (let t = step g w x in IsSound g t.words t.views)
-step_sound g w x l k room suits = turns_any g w x.seat x.start (slice_get w.views x.seat) l k room refl suits.wide
-
-made_more : (g : Grid) (made : List Placed) (entry : List ℕ) (p : Phase) → length (made_after g made entry p) ≤ length made + 1
-made_more g made entry (Commit at) = omega (arith, length-append made (placed (place_at g at) entry ∷ []))
-made_more g made entry p = omega arith
-
-moves_more : (g : Grid) (ws : List ℕ) (v : View) (ph : Option Phase) → made_count (moves g ws v ph).view ≤ made_count v + 1
-moves_more g ws v None = omega arith
-moves_more g ws v (Some p) = made_more g v.made v.entry p
-
--- a seat's turn makes at most one entry
-pub turned_more : (g : Grid) (ws : List ℕ) (v : View) (s : Start) → made_count (turned g ws v s).view ≤ made_count v + 1
-turned_more g ws v s = let m = moves_more g ws (begun v v.phase s) (begun v v.phase s).phase in let b = ap (λ (l : List Placed). length l) (begun_made v v.phase s) in omega arith
-
-turn_more : (g : Grid) (w : MachineState) (id : ℕ) (s : Start) (o : Option View) → slice_get w.views id ≡ o → made_total (turn g w id s o).views ≤ made_total w.views + 1
-turn_more g w id s None at = omega arith
-turn_more g w id s (Some v) at = let q = sum_set made_count w.views id v (turned g w.words v s).view at in let m = turned_more g w.words v s in omega arith
-
-pub step_more : (g : Grid) (w : MachineState) (x : Event) → made_total (step g w x).views ≤ made_total w.views + 1
-step_more g w x = turn_more g w x.seat x.start (slice_get w.views x.seat) refl
-
-pub run_more : (g : Grid) (w : MachineState) (es : List Event) → made_total (run g w es).views ≤ made_total w.views + length es
-run_more g w [] = omega arith
-run_more g w (x ∷ es) = omega (arith, step_more g w x, run_more g (step g w x) es)
-
-pub run_sound : (g : Grid) (w : MachineState) (es : List Event) → IsWithinLimits g → IsSound g w.words w.views → made_total w.views + length es < place_span → AllByRecursion (Suits g) es → (let t = run g w es in IsSound g t.words t.views)
-run_sound g w [] l k room suits = k
-run_sound g w (x ∷ es) l k room suits = run_sound g (step g w x) es l (step_sound g w x l k (omega arith) suits.0) (omega (arith, step_more g w x)) suits.1
 
 -- the start
 start_word_is : (g : Grid) (i : ℕ) → i < word_count g → slice_index (start_state g).words i ≡ start_at g i
@@ -221,25 +146,6 @@ start_sound g l =
       };
     }
 
-pub prefix : (P : Event → Type 0) (es : List Event) (n : ℕ) → AllByRecursion P es → AllByRecursion P (take n es) × (length (take n es) ≤ length es)
-prefix P es zero a = (tt, omega arith)
-prefix P [] (suc n) a = (tt, omega arith)
-prefix P (e ∷ es) (suc n) a = let r = prefix P es n a.1 in ((a.0, r.0), omega (arith, r.1))
-
-no_condition : (es : List Event) → AllByRecursion (λ (x : Event). Unit {0}) es
-no_condition [] = tt
-no_condition (e ∷ es) = (tt, no_condition es)
-
-pub start_total : (g : Grid) → made_total (start_state g).views ≡ 0
-start_total g = let e = sum_by-replicate made_count g.seats (resting g) in omega (arith, e)
-
--- the state at a moment of a schedule
-pub moment_sound : (g : Grid) (es : List Event) (n : ℕ) → IsWithinLimits g → AllByRecursion (Suits g) es → length es < most_puts → (let t = run g (start_state g) (take n es) in IsSound g t.words t.views)
-moment_sound g es n l suits few = let p = prefix (Suits g) es n suits in let z = start_total g in run_sound g (start_state g) (take n es) l (start_sound g l) (omega (arith, p.1)) p.0
-
-pub moment_total : (g : Grid) (es : List Event) (n : ℕ) → length es < most_puts → made_total (run g (start_state g) (take n es)).views < place_span
-moment_total g es n few = let z = start_total g in let m = run_more g (start_state g) (take n es) in let p = (prefix (λ x. Unit {0}) es n (no_condition es)).1 in omega arith
-
 pub dense : (g : Grid) (w : MachineState) → IsSound g w.words w.views → PlacesAreDense g w.views
 dense g w s = record { count = s.allocated; once = s.at.counts.once }
 
@@ -254,17 +160,3 @@ taken_rises g w s id v at = rising_front _ (reading g v.phase) ((s.at.takes_each
 
 pub taken_once : (g : Grid) (w : MachineState) → IsSound g w.words w.views → TakenOnce g w.views
 taken_once g w s = record { count = s.reserved; once = s.at.counts.read_once }
-
--- one event more
-pub run_push : (g : Grid) (w : MachineState) (es : List Event) (x : Event) → run g w (es ++ x ∷ []) ≡ step g (run g w es) x
-run_push g w [] x = refl
-run_push g w (e ∷ es) x = run_push g (step g w e) es x
-
-pub suits_at : (g : Grid) (es : List Event) (i : ℕ) (x : Event) → AllByRecursion (Suits g) es → slice_get es i ≡ Some x → Suits g x
-suits_at g [] i x a at = cc
-suits_at g (e ∷ es) zero x a at = let h : e ≡ x = cc in subst (Suits g) h a.0
-suits_at g (e ∷ es) (suc i) x a at = suits_at g es i x a.1 at
-
--- no seat makes more entries than there were events
-pub made_few : (g : Grid) (es : List Event) (n id : ℕ) (v : View) → slice_get (run g (start_state g) (take n es)).views id ≡ Some v → made_count v ≤ length es
-made_few g es n id v at = let z = start_total g in let m = run_more g (start_state g) (take n es) in let o = one_le_sum made_count _ id v at in let p = (prefix (λ x. Unit {0}) es n (no_condition es)).1 in omega arith

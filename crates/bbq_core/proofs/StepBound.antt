@@ -1,37 +1,26 @@
 -- A call ends within its bound, since the rank of its phase falls at each step.
-use Rattle.std.proofs.Common.{◌≡◌, ℕ, ◌+◌, ◌-◌, ◌/◌, ◌%◌, ◌<◌, ◌≤◌, List, [], ◌∷◌, length, take, refl, ap, subst, ⊎_elim, arith}
-use Rattle.std.specs.Prelude.{Bool, true, false, Option, Some, None, if◌then◌else◌, slice_get}
-use Rattle.std.specs.List.{AllByRecursion}
-use Rattle.std.proofs.lemmas.List.{length-append}
-use Rattle.cursor_word.specs.Shape.{Grid, IsWithinLimits}
-use Rattle.cursor_word.specs.Cursor.{offset_span, packed, place_span, unpacked}
+use Rattle.std.proofs.Common.{◌≡◌, ℕ, ◌+◌, ◌-◌, ◌/◌, ◌%◌, ◌<◌, ◌≤◌, refl, ap, arith}
+use Rattle.std.specs.Prelude.{Bool, true, false, if◌then◌else◌}
+use Rattle.cursor_word.specs.Shape.{Grid}
+use Rattle.cursor_word.specs.Cursor.{offset_span, packed, unpacked}
 use Rattle.cursor_word.specs.declared.cursor.Cursor.{Cursor}
 use Rattle.rail.specs.declared.answer.Answer.{Answer}
-use Rattle.rail.specs.Rail.{most_puts}
 use Rattle.bbq_core.specs.declared.phase.Phase.{Phase}
 use Rattle.bbq_core.specs.declared.phase.Phase.TheVariants.{HeadP, SeeA, AddA, Write, Commit, SeeX, SeeR, OpenM, OpenA, RaiseP, Take}
 use Rattle.bbq_core.specs.declared.take_phase.TakePhase.TheVariants.{HeadC, SeeRes, SeeCom, SeeAll, Reserve, Read, Consume, NextCom, OpenX, OpenR, RaiseC}
-use Rattle.bbq_core.specs.declared.op.After.{After}
-use Rattle.bbq_core.specs.declared.op.After.TheVariants.{Next, Done}
-use Rattle.bbq_core.specs.declared.event.Start.{Start}
-use Rattle.bbq_core.specs.declared.event.Start.TheVariants as start
-use Rattle.bbq_core.specs.declared.event.Event.{Event}
-use Rattle.bbq_core.specs.declared.view.View.{View}
-use Rattle.bbq_core.specs.PutSteps.{IsInRange, after, filled, older_consumed, rank, want}
+use Rattle.bbq_core.specs.Types.{After}
+use Rattle.machine.specs.declared.op.After.TheVariants.{Next, Done}
+use Rattle.bbq_core.specs.PutSteps.{IsInRange, after, filled, older_consumed, rank}
 use Rattle.bbq_core.specs.TakeSteps.{by_turn, is_same, passed}
-use Rattle.bbq_core.specs.Machine.{IsWide, MachineState, Suits, answer_after, begun, moves, noted, phase_after, resting, run, seen, start_state, step, turn, turned}
-use Rattle.bbq_core.specs.Counts.{made_total}
-use Rattle.bbq_core.specs.Sound.{IsSound}
-use Rattle.bbq_core.specs.Laws.{most_steps, steps_of_answer, steps_of_phase}
-use Rattle.bbq_core.proofs.Views.{by_test_le, get_replicate, get_set}
-use Rattle.bbq_core.proofs.Runs.{prefix, start_sound, start_total, step_more, step_sound}
-use Rattle.bbq_core.proofs.Kept.{ready_begun}
+use Rattle.bbq_core.specs.Laws.{steps_of_answer, steps_of_phase}
+use Rattle.bbq_core.proofs.Views.{by_test_le}
+use Rattle.machine.specs.Bounds as bounds
+use Rattle.machine.specs.Bounds.{IsBounded}
+use Rattle.bbq_core.specs.Table.{table}
 use Rattle.bbq_core.proofs.TakeLoads.{by_equal, pick_equal, pick_less, pick_same}
 
--- the next phase has a lesser rank and is of a call of the same kind, and so is the answer
-abbrev pub Leads : Grid → ℕ → ℕ → After → Type 0
-Leads g high most (Next p) = (rank g p < high) × (steps_of_phase g p ≡ most)
-Leads g high most (Done a) = (1 ≤ high) × (steps_of_answer g a ≡ most)
+abbrev Leads : Grid → ℕ → ℕ → After → Type 0
+Leads g high most b = bounds.Leads (rank g) (steps_of_phase g) (steps_of_answer g) high most b
 
 turn_falls : (turn a b a' b' : ℕ) → a' < a → b' < b → by_turn turn a' b' < by_turn turn a b
 turn_falls turn a b a' b' h l = by_equal turn 1 (λ c. (if c then a' else b') < (if c then a else b)) (λ e. h) (λ n. l)
@@ -89,64 +78,5 @@ leads g (Take (OpenX sp)) old r = (omega arith, refl)
 leads g (Take (OpenR sp)) old r = (omega arith, refl)
 leads g (Take (RaiseC sp)) old r = (omega arith, refl)
 
--- the steps that a call may still take
-abbrev pub rank_left : Grid → Option Phase → ℕ
-rank_left g None = 0
-rank_left g (Some p) = rank g p
-
--- the steps of a seat's call so far and those that may follow are within its bound
-abbrev pub StepsFit : Grid → View → Type 0
-StepsFit g v = length v.trail + rank_left g v.phase ≤ most_steps g v.phase v.answer
-
-abbrev pub AllFit : Grid → List View → Type 0
-AllFit g vs = (j : ℕ) (u : View) → slice_get vs j ≡ Some u → StepsFit g u
-
-led : (g : Grid) (high most n : ℕ) (a : Option Answer) (b : After) → Leads g high most b → n + high ≤ most → n + 1 + rank_left g (phase_after b) ≤ most_steps g (phase_after b) (answer_after a b)
-led g high most n a (Next p) l h = let k = l.1 in let q = l.0 in omega arith
-led g high most n a (Done x) l h = let k = l.1 in let q = l.0 in omega arith
-
-steps_fit : (g : Grid) (v : View) (p : Phase) (old : ℕ) → v.phase ≡ Some p → IsInRange g p → StepsFit g v → StepsFit g (seen g v p old)
-steps_fit g v p old e r fit =
-    let h : length v.trail + rank g p ≤ steps_of_phase g p = subst (λ (ph : Option Phase). length v.trail + rank_left g ph ≤ most_steps g ph v.answer) e fit in
-    let n = length-append v.trail (noted (want g p v.entry) old ∷ []) in
-    let l = led g (rank g p) (steps_of_phase g p) (length v.trail) v.answer (after g p old) (leads g p old r) h in
-    omega arith
-
-begun_fits : (g : Grid) (v : View) (ph : Option Phase) (s : Start) → StepsFit g v → StepsFit g (begun v ph s)
-begun_fits g v (Some p) s fit = fit
-begun_fits g v None (start.Put entry) fit = omega arith
-begun_fits g v None start.Take fit = omega arith
-begun_fits g v None start.Go fit = fit
-
-moves_fit : (g : Grid) (ws : List ℕ) (b : View) (ph : Option Phase) → b.phase ≡ ph → ((p : Phase) → ph ≡ Some p → IsInRange g p) → StepsFit g b → StepsFit g (moves g ws b ph).view
-moves_fit g ws b None e r fit = fit
-moves_fit g ws b (Some p) e r fit = steps_fit g b p _ e (r p refl) fit
-
-any_fit : (g : Grid) (w : MachineState) (id : ℕ) (s : Start) (o : Option View) → IsWithinLimits g → IsSound g w.words w.views → made_total w.views < place_span → slice_get w.views id ≡ o → IsWide g s → AllFit g w.views
-    → AllFit g (turn g w id s o).views
-any_fit g w id s None l k room at wide fit = fit
-any_fit g w id s (Some v) l k room at wide fit =
-    let b : View = begun v v.phase s in
-    let mine : StepsFit g (turned g w.words v s).view = moves_fit g w.words b b.phase refl (λ p e. (ready_begun g w.words w.views id v s v.phase p l k room at refl wide e).range) (begun_fits g v v.phase s (fit id v at)) in
-    λ j u q. ⊎_elim (λ r. subst (StepsFit g) r.1 mine) (λ r. fit j u r.1) (get_set w.views id j (turned g w.words v s).view u q)
-
-run_fits : (g : Grid) (w : MachineState) (es : List Event) → IsWithinLimits g → IsSound g w.words w.views → made_total w.views + length es < place_span → AllByRecursion (Suits g) es → AllFit g w.views → AllFit g (run g w es).views
-run_fits g w [] l k room suits fit = fit
-run_fits g w (x ∷ es) l k room suits fit =
-    run_fits g (step g w x) es l (step_sound g w x l k (omega arith) suits.0) (omega (arith, step_more g w x)) suits.1 (any_fit g w x.seat x.start (slice_get w.views x.seat) l k (omega arith) refl suits.0.wide fit)
-
--- at each moment of each schedule
-pub moment_fits : (g : Grid) (es : List Event) (n : ℕ) → IsWithinLimits g → AllByRecursion (Suits g) es → length es < most_puts → AllFit g (run g (start_state g) (take n es)).views
-moment_fits g es n l suits few =
-    let p = prefix (Suits g) es n suits in
-    let z = start_total g in
-    run_fits g (start_state g) (take n es) l (start_sound g l) (omega (arith, p.1)) p.0 (λ j u q. subst (StepsFit g) (get_replicate g.seats (resting g) j u q) (omega arith))
-
-pub rank_falls : (g : Grid) (p next : Phase) (old : ℕ) → IsInRange g p → after g p old ≡ Next next → rank g next < rank g p
-rank_falls g p next old r e = (subst (Leads g (rank g p) (steps_of_phase g p)) e (leads g p old r)).0
-
-pub within_bound : (g : Grid) (v : View) → StepsFit g v → length v.trail ≤ most_steps g v.phase v.answer
-within_bound g v fit = omega arith
-
-pub rank_within : (g : Grid) (v : View) (p : Phase) → v.phase ≡ Some p → StepsFit g v → length v.trail + rank g p ≤ steps_of_phase g p
-rank_within g v p e fit = subst (λ (ph : Option Phase). length v.trail + rank_left g ph ≤ most_steps g ph v.answer) e fit
+pub bounded : IsBounded table steps_of_phase steps_of_answer
+bounded = record { first_put = λ g. omega arith; first_take = λ g taken. omega arith; leads = leads }

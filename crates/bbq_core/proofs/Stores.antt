@@ -4,32 +4,29 @@ use Rattle.std.specs.Prelude.{Option, Some, slice_get, slice_set, slice_index, i
 use Rattle.std.proofs.lemmas.List.{length-set, get_or-set_same, get_or-set_other}
 use Rattle.std.proofs.lemmas.Bool.{cases_eq, cases_lt}
 use Rattle.std.proofs.lemmas.Bool.Decides.{nat_tests}
-use Rattle.std.proofs.lemmas.Nat.{mod_below}
+use Rattle.std.proofs.lemmas.Nat.{mod_below, div-add-mod', div_below, same_from_place}
 use Rattle.cursor_word.specs.Shape.{Grid, IsWithinLimits}
 use Rattle.cursor_word.specs.declared.cursor.Cursor.{Cursor}
 use Rattle.rail.specs.declared.entry.Placed.{Placed}
 use Rattle.rail.specs.Items.{IsRising, places}
 use Rattle.bbq_core.specs.declared.phase.Phase.{Phase}
 use Rattle.bbq_core.specs.declared.phase.Phase.TheVariants.{Write, Commit}
-use Rattle.bbq_core.specs.declared.view.View.{View}
-use Rattle.bbq_core.specs.declared.op.After.{After}
-use Rattle.bbq_core.specs.declared.op.After.TheVariants.{Next}
+use Rattle.bbq_core.specs.Types.{View, After}
+use Rattle.machine.specs.declared.op.After.TheVariants.{Next}
 use Rattle.bbq_core.specs.Machine.{phase_after, view_after, words_after}
 use Rattle.bbq_core.specs.Blocks.{Newest, allocated_word, committed_word, consumed_word, reserved_word}
 use Rattle.bbq_core.specs.Counts.{IsPutting, adds_in, claimed, claims, held, makes, one_at, one_below, times}
 use Rattle.bbq_core.specs.Sound.{HasWords, HoldsWords, IsCurrent, IsSoundAt, PutKnows}
-use Rattle.bbq_core.proofs.Views.{by_test, one_le_sum, times_push}
+use Rattle.bbq_core.proofs.Views.{by_test, times_push, times-cons, two_le_sum}
+use Rattle.machine.proofs.Lists.{one_le_sum}
 use Rattle.cursor_word.proofs.Blocks.{same_near}
-use Rattle.bbq_core.proofs.Frames.{after_put, fetched_idle, made_same, counts_quiet, ended, takes_same}
+use Rattle.bbq_core.proofs.Frames.{after_put, fetched_idle, made_same, counts_quiet, ended, takes_same, phase_grows}
 use Rattle.bbq_core.proofs.Quiet.{fits_at, is_putting}
 use Rattle.bbq_core.proofs.Facts.{allocated_to, one_to}
-use Rattle.std.proofs.lemmas.Nat.{div-add-mod', div_below, same_from_place}
 use Rattle.std.specs.List.{sum_by}
 use Rattle.cursor_word.specs.Cursor.{offset_span, place_at}
 use Rattle.cursor_word.specs.Layout.{entry_index}
 use Rattle.cursor_word.proofs.Apart.{entry_word_within}
-use Rattle.bbq_core.proofs.Views.{times-cons, two_le_sum}
-use Rattle.bbq_core.proofs.Frames.{phase_grows}
 use Rattle.bbq_core.proofs.Commits.{makes_le}
 
 one_is : (p : ℕ) → one_at p p ≡ 1

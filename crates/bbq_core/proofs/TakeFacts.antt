@@ -5,24 +5,22 @@ use Rattle.std.proofs.lemmas.Bool.{cases_lt}
 use Rattle.std.proofs.lemmas.Bool.Decides.{nat_tests}
 use Rattle.std.proofs.lemmas.Nat.{mod_below}
 use Rattle.std.proofs.Math.Nat.{mod-mod, mul-le-mul_right}
-use Rattle.cursor_word.specs.Shape.{Grid}
-use Rattle.cursor_word.specs.Cursor.{offset_span, packed, unpacked}
+use Rattle.cursor_word.specs.Shape.{Grid, most_size}
+use Rattle.cursor_word.specs.Cursor.{offset_span, packed, unpacked, place_at}
 use Rattle.rail.specs.declared.entry.Placed.{Placed}
 use Rattle.rail.specs.Items.{placed, places}
 use Rattle.bbq_core.specs.declared.phase.Phase.{Phase}
 use Rattle.bbq_core.specs.declared.phase.Phase.TheVariants.{Take}
 use Rattle.bbq_core.specs.declared.take_phase.TakePhase.TheVariants.{Read, Consume}
 use Rattle.std.specs.List.{sum_by}
-use Rattle.cursor_word.specs.Cursor.{place_at}
-use Rattle.bbq_core.specs.declared.view.View.{View}
+use Rattle.bbq_core.specs.Types.{View}
 use Rattle.bbq_core.specs.Blocks.{NewestTaken, TakeWords, committed_word, consumed_word, place, reserved_word}
 use Rattle.bbq_core.specs.Counts.{claims, fetches, makes, one_at, one_below, reading, sum_below, takes, times}
 use Rattle.bbq_core.specs.Sound.{IsMade, IsSoundAt, TakerKnows}
-use Rattle.bbq_core.proofs.Views.{one_le_sum}
+use Rattle.machine.proofs.Lists.{one_le_sum}
 use Rattle.cursor_word.proofs.Blocks.{latest, latest_is, same_block, shifted}
-use Rattle.bbq_core.proofs.Facts.{IsPhysical, repacked}
+use Rattle.bbq_core.proofs.Facts.{IsPhysical, repacked, one_in, place_next}
 use Rattle.std.proofs.lemmas.List.Sums.{sum_by-append, sum_by-cons, sum_by-le-sum_by}
-use Rattle.bbq_core.proofs.Facts.{one_in, place_next}
 use Rattle.bbq_core.proofs.Views.{times-cons}
 use Rattle.bbq_core.proofs.Commits.{makes_le}
 use Rattle.bbq_core.proofs.Stores.{counted}
@@ -66,7 +64,7 @@ reserved_below g K J t C R X h pos same s =
     let z = same _ _ e in omega (arith, f.to)
 
 -- a reserved cursor of an opened block and what is below it
-pub reserved_to : (g : Grid) (K J t C : ℕ) (R X : ℕ → ℕ) (k o : ℕ) → 2 ≤ g.blocks → IsPhysical g R → TakeWords g K J t C R X → g.blocks ≤ k → o ≤ g.size → g.size ≤ 1024 → packed (unpacked (k * offset_span + o)) ≤ R k → (k ≤ J) × (place g k o ≤ t)
+pub reserved_to : (g : Grid) (K J t C : ℕ) (R X : ℕ → ℕ) (k o : ℕ) → 2 ≤ g.blocks → IsPhysical g R → TakeWords g K J t C R X → g.blocks ≤ k → o ≤ g.size → g.size ≤ most_size → packed (unpacked (k * offset_span + o)) ≤ R k → (k ≤ J) × (place g k o ≤ t)
 reserved_to g K J t C R X k o pos same s from le small known =
     let p = repacked (k * offset_span + o) in
     let b = reserved_below g K J t C R X k pos same s in

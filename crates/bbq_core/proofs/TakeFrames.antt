@@ -8,10 +8,9 @@ use Rattle.rail.specs.Items.{IsRising, places}
 use Rattle.bbq_core.specs.declared.phase.Phase.{Phase}
 use Rattle.bbq_core.specs.declared.phase.Phase.TheVariants.{Take}
 use Rattle.bbq_core.specs.declared.take_phase.TakePhase.{TakePhase}
-use Rattle.bbq_core.specs.declared.view.View.{View}
+use Rattle.bbq_core.specs.Types.{View, After}
 use Rattle.rail.specs.declared.answer.Answer.{Answer}
-use Rattle.bbq_core.specs.declared.op.After.{After}
-use Rattle.bbq_core.specs.declared.op.After.TheVariants.{Done}
+use Rattle.machine.specs.declared.op.After.TheVariants.{Done}
 use Rattle.bbq_core.specs.Machine.{answer_after, phase_after}
 use Rattle.bbq_core.specs.Blocks.{PutWords, TakeWords, allocated_word, committed_word, consumed_word, reserved_word}
 use Rattle.bbq_core.specs.Counts.{Counts, IsTaking, adds_in, claimed, fetched, held, reading, reading_in}

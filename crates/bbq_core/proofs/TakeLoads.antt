@@ -9,10 +9,9 @@ use Rattle.bbq_core.specs.declared.phase.Phase.TheVariants.{Take}
 use Rattle.bbq_core.specs.declared.take_phase.TakePhase.TheVariants.{HeadC, SeeRes, SeeCom, SeeAll, NextCom}
 use Rattle.bbq_core.specs.TakeSteps.{after_take, is_same, passed}
 use Rattle.std.specs.List.{sum_by}
-use Rattle.bbq_core.specs.declared.view.View.{View}
+use Rattle.bbq_core.specs.Types.{View, After}
 use Rattle.rail.specs.declared.answer.Answer.{Answer}
-use Rattle.bbq_core.specs.declared.op.After.{After}
-use Rattle.bbq_core.specs.declared.op.After.TheVariants.{Next, Done}
+use Rattle.machine.specs.declared.op.After.TheVariants.{Next, Done}
 use Rattle.bbq_core.specs.Machine.{view_after, words_after}
 use Rattle.bbq_core.specs.Blocks.{committed_word, consumed_word, place, reserved_word}
 use Rattle.bbq_core.specs.Counts.{makes, sum_below}

@@ -5,7 +5,7 @@ use Rattle.std.proofs.lemmas.List.{length-set, get_or-set_same, get_or-set_other
 use Rattle.std.proofs.lemmas.Bool.{cases_lt}
 use Rattle.std.proofs.lemmas.Nat.{mod_below}
 use Rattle.cursor_word.specs.Shape.{Grid, IsWithinLimits}
-use Rattle.cursor_word.specs.Cursor.{offset_span, packed}
+use Rattle.cursor_word.specs.Cursor.{offset_span, packed, place_at}
 use Rattle.cursor_word.specs.declared.cursor.Cursor.{Cursor}
 use Rattle.rail.specs.Items.{IsRising, places}
 use Rattle.bbq_core.specs.declared.phase.Phase.{Phase}
@@ -13,9 +13,8 @@ use Rattle.bbq_core.specs.declared.phase.Phase.TheVariants.{Take}
 use Rattle.bbq_core.specs.declared.take_phase.TakePhase.{TakePhase}
 use Rattle.bbq_core.specs.declared.take_phase.TakePhase.TheVariants.{Read, Consume, OpenX, OpenR}
 use Rattle.std.specs.List.{sum_by}
-use Rattle.cursor_word.specs.Cursor.{place_at}
-use Rattle.bbq_core.specs.declared.view.View.{View}
-use Rattle.bbq_core.specs.declared.op.After.TheVariants.{Next}
+use Rattle.bbq_core.specs.Types.{View}
+use Rattle.machine.specs.declared.op.After.TheVariants.{Next}
 use Rattle.bbq_core.specs.Machine.{view_after, words_after}
 use Rattle.bbq_core.specs.Blocks.{TakeWords, allocated_word, committed_word, consumed_word, place, reserved_word}
 use Rattle.bbq_core.specs.Counts.{claim_count, claimed, claims, fetch_count, fetched, fetches, makes, reading, reading_in, sum_below, takes, times}
@@ -24,13 +23,11 @@ use Rattle.bbq_core.proofs.Raises.{raised}
 use Rattle.bbq_core.proofs.TakeFacts.{reserved_below}
 use Rattle.bbq_core.proofs.TakeFrames.{after_taking, claimed_idle, is_taking, knows_at, loads_take, reads_none, took}
 use Rattle.cursor_word.proofs.Blocks.{latest_is, same_near, shifted}
-use Rattle.bbq_core.proofs.Frames.{adds_bound, made_same, takes_grow, sum_same, upto_same}
-use Rattle.bbq_core.proofs.Facts.{committed_below, none_from, physical}
+use Rattle.bbq_core.proofs.Frames.{adds_bound, made_same, takes_grow, sum_same, upto_same, passed_grows}
+use Rattle.bbq_core.proofs.Facts.{committed_below, none_from, physical, place_next}
 use Rattle.std.proofs.lemmas.List.Sums.{sum_by-le-sum_by}
-use Rattle.bbq_core.proofs.Facts.{place_next}
 use Rattle.bbq_core.proofs.Opens.{current_opens, takes_le, upto_none}
 use Rattle.bbq_core.proofs.Consumes.{unread}
-use Rattle.bbq_core.proofs.Frames.{passed_grows}
 
 -- what a seat knows stays where a block is opened
 knows_opens : (g : Grid) (J C : ℕ) (M R X : ℕ → ℕ) (vs : List View) (read : List ℕ) (q : TakePhase) → ((at : Cursor) → reading_in g q ≡ place_at g at ∷ [] → IsCurrent g J at → at.block + g.blocks ≢ J + 1)

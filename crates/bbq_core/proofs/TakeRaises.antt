@@ -9,8 +9,8 @@ use Rattle.cursor_word.specs.Cursor.{offset_span}
 use Rattle.cursor_word.specs.declared.cursor.Cursor.{Cursor}
 use Rattle.bbq_core.specs.declared.phase.Phase.TheVariants.{Take}
 use Rattle.bbq_core.specs.declared.take_phase.TakePhase.TheVariants.{HeadC, OpenR, RaiseC}
-use Rattle.bbq_core.specs.declared.view.View.{View}
-use Rattle.bbq_core.specs.declared.op.After.TheVariants.{Next}
+use Rattle.bbq_core.specs.Types.{View}
+use Rattle.machine.specs.declared.op.After.TheVariants.{Next}
 use Rattle.bbq_core.specs.Machine.{view_after, words_after}
 use Rattle.bbq_core.specs.Blocks.{NewestTaken, TakeWords, consumed_word, place, reserved_word}
 use Rattle.bbq_core.specs.Sound.{IsSoundAt}

@@ -1,5 +1,7 @@
 pub mod TakeSteps
 pub mod PutSteps
+pub mod Types
+pub mod Table
 pub mod Machine
 pub mod Blocks
 pub mod Counts

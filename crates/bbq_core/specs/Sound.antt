@@ -1,20 +1,19 @@
 -- The invariant: what holds between any two steps, of the words and the views of all seats.
 use Rattle.std.specs.Prelude.{◌≡◌, ℕ, ◌+◌, ◌*◌, ◌/◌, ◌%◌, ◌<◌, ◌≤◌, ◌⊎◌, List, Option, Some, None, length, slice_get, slice_index, take, []}
 use Rattle.std.specs.List.{AllByRecursion, sum_by}
-use Rattle.cursor_word.specs.Shape.{Grid, IsWithinLimits}
+use Rattle.cursor_word.specs.Shape.{Grid}
 use Rattle.cursor_word.specs.Cursor.{offset_span, packed, place_at}
 use Rattle.cursor_word.specs.Layout.{entry_index, word_count}
 use Rattle.cursor_word.specs.declared.cursor.Cursor.{Cursor}
 use Rattle.rail.specs.declared.entry.Placed.{Placed}
-use Rattle.rail.specs.Rail.{most_puts}
 use Rattle.rail.specs.Items.{IsRising, placed, places}
 use Rattle.bbq_core.specs.declared.phase.Phase.{Phase}
 use Rattle.bbq_core.specs.declared.phase.Phase.TheVariants.{HeadP, SeeA, AddA, Write, Commit, SeeX, SeeR, OpenM, OpenA, RaiseP, Take}
 use Rattle.bbq_core.specs.declared.take_phase.TakePhase.{TakePhase}
 use Rattle.bbq_core.specs.declared.take_phase.TakePhase.TheVariants.{HeadC, SeeRes, SeeCom, SeeAll, Reserve, Read, Consume, NextCom, OpenX, OpenR, RaiseC}
-use Rattle.bbq_core.specs.declared.view.View.{View}
+use Rattle.bbq_core.specs.Types.{View}
 use Rattle.bbq_core.specs.PutSteps.{FindsFit, IsInRange, older_consumed, want}
-use Rattle.bbq_core.specs.Machine.{ShapedState, index}
+use Rattle.machine.specs.Ops.{index}
 use Rattle.bbq_core.specs.Blocks.{PutWords, TakeWords, allocated_word, committed_word, consumed_word, place, reserved_word}
 use Rattle.bbq_core.specs.Counts.{Counts, claimed, fetched, makes, reading_in}
 
@@ -161,10 +160,3 @@ pub record CanStep (g : Grid) (ws : List ℕ) (v : View) (p : Phase) : Type 0 wh
   pub found : FindsFit p (slice_index ws (index (want g p v.entry)))
   pub wide : length v.entry ≡ g.width
   pub read : IsRead g p v.read
-
--- what each state that the machine reaches keeps: the invariant, a view for each seat, and not too many entries
-pub record IsKept (s : ShapedState) : Type 0 where
-  pub limits : IsWithinLimits s.shape
-  pub sound : IsSound s.shape s.state.words s.state.views
-  pub all : length s.state.views ≡ s.shape.seats
-  pub few : (j : ℕ) (u : View) → slice_get s.state.views j ≡ Some u → length u.made ≤ most_puts

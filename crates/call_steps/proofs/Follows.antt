@@ -16,8 +16,8 @@ use Rattle.bbq_core.specs.declared.phase.Phase.TheVariants.{HeadP, SeeA, AddA, W
 use Rattle.bbq_core.specs.declared.phase.Phase.TheVariants as phase
 use Rattle.bbq_core.specs.declared.take_phase.TakePhase.{TakePhase}
 use Rattle.bbq_core.specs.declared.take_phase.TakePhase.TheVariants.{SeeRes, SeeCom, SeeAll, Reserve, Read, Consume, NextCom, OpenX}
-use Rattle.bbq_core.specs.declared.op.After.{After}
-use Rattle.bbq_core.specs.declared.op.After.TheVariants.{Next, Done}
+use Rattle.bbq_core.specs.Types.{After}
+use Rattle.machine.specs.declared.op.After.TheVariants.{Next, Done}
 use Rattle.bbq_core.specs.PutSteps.{IsInRange, after, filled, older_consumed, want}
 use Rattle.bbq_core.specs.TakeSteps.{after_take, is_same, moved_on, passed}
 use Rattle.bbq_core.specs.Machine.{made_after, read_after, taken_after}

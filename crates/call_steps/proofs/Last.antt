@@ -4,13 +4,12 @@ use Rattle.cursor_word.specs.Shape.{Grid}
 use Rattle.rail.specs.declared.entry.Placed.{Placed}
 use Rattle.rail.specs.declared.answer.Answer.{Answer}
 use Rattle.step_log.specs.declared.step.Taken.{Taken}
-use Rattle.bbq_core.specs.declared.event.Start.{Start}
+use Rattle.machine.specs.declared.event.Start.{Start}
 use Rattle.bbq_core.specs.declared.phase.Phase.{Phase}
 use Rattle.bbq_core.specs.declared.phase.Phase.TheVariants.{Commit, Take}
 use Rattle.bbq_core.specs.declared.take_phase.TakePhase.TheVariants.{Consume}
-use Rattle.bbq_core.specs.declared.view.View.{View}
-use Rattle.bbq_core.specs.declared.op.After.{After}
-use Rattle.bbq_core.specs.declared.op.After.TheVariants.{Next, Done}
+use Rattle.bbq_core.specs.Types.{View, After}
+use Rattle.machine.specs.declared.op.After.TheVariants.{Next, Done}
 use Rattle.bbq_core.specs.PutSteps.{after}
 use Rattle.bbq_core.specs.Machine.{made_after, seen, taken_after}
 use Rattle.call_steps.specs.Steps.{Leads, value_of}

@@ -12,8 +12,8 @@ use Rattle.bbq_core.specs.declared.phase.Phase.{Phase}
 use Rattle.bbq_core.specs.declared.phase.Phase.TheVariants.{HeadP, SeeA, AddA, Write, Commit, SeeX, SeeR, OpenM, OpenA, RaiseP, Take}
 use Rattle.bbq_core.specs.declared.take_phase.TakePhase.{TakePhase}
 use Rattle.bbq_core.specs.declared.take_phase.TakePhase.TheVariants.{HeadC, SeeRes, SeeCom, SeeAll, Reserve, Read, Consume, NextCom, OpenX, OpenR, RaiseC}
-use Rattle.bbq_core.specs.declared.op.After.{After}
-use Rattle.bbq_core.specs.declared.op.After.TheVariants.{Next, Done}
+use Rattle.bbq_core.specs.Types.{After}
+use Rattle.machine.specs.declared.op.After.TheVariants.{Next, Done}
 use Rattle.bbq_core.specs.PutSteps.{IsInRange, after, filled, older_consumed, rank}
 use Rattle.bbq_core.specs.TakeSteps.{after_take, is_same, by_turn, moved_on, passed, rank_take}
 use Rattle.bbq_core.proofs.Views.{by_test_le}

@@ -12,14 +12,14 @@ use Rattle.rail.specs.declared.answer.Take.TheVariants as take
 use Rattle.rail.specs.declared.answer.Answer.{Answer}
 use Rattle.rail.specs.declared.answer.Answer.TheVariants as answer
 use Rattle.step_log.specs.declared.step.Taken.{Taken}
-use Rattle.bbq_core.specs.declared.event.Start.{Start}
-use Rattle.bbq_core.specs.declared.event.Start.TheVariants as start
+use Rattle.machine.specs.declared.event.Start.{Start}
+use Rattle.machine.specs.declared.event.Start.TheVariants as start
 use Rattle.bbq_core.specs.declared.phase.Phase.{Phase}
-use Rattle.bbq_core.specs.declared.view.View.{View}
-use Rattle.bbq_core.specs.declared.op.After.TheVariants.{Next, Done}
+use Rattle.bbq_core.specs.Types.{View, MachineState}
+use Rattle.machine.specs.declared.op.After.TheVariants.{Next, Done}
 use Rattle.bbq_core.specs.PutSteps.{after, first_put}
 use Rattle.bbq_core.specs.TakeSteps.{first_take}
-use Rattle.bbq_core.specs.Machine.{MachineState, begun, made_after, seen, taken_after}
+use Rattle.bbq_core.specs.Machine.{begun, made_after, seen, taken_after}
 use Rattle.bbq_core.proofs.Outcomes.{Tells}
 use Rattle.bbq_core.proofs.Trails.{TrailShows, put_begins, take_begins}
 use Rattle.bbq_core.proofs.Promises.{HandsOut, put_promised, take_promised}

@@ -4,12 +4,12 @@ use Rattle.cursor_word.specs.Shape.{Grid}
 use Rattle.rail.specs.declared.answer.Answer.{Answer}
 use Rattle.step_log.specs.declared.step.Taken.{Taken}
 use Rattle.bbq_core.specs.declared.phase.Phase.{Phase}
-use Rattle.bbq_core.specs.declared.op.Op.{Op}
-use Rattle.bbq_core.specs.declared.op.Op.TheVariants.{Load, Store, AddOne, Max}
-use Rattle.bbq_core.specs.declared.op.After.{After}
-use Rattle.bbq_core.specs.declared.op.After.TheVariants.{Next, Done}
+use Rattle.machine.specs.declared.op.Op.{Op}
+use Rattle.machine.specs.declared.op.Op.TheVariants.{Load, Store, AddOne, Max}
+use Rattle.bbq_core.specs.Types.{After}
+use Rattle.machine.specs.declared.op.After.TheVariants.{Next, Done}
 use Rattle.bbq_core.specs.PutSteps.{after, want}
-use Rattle.bbq_core.specs.Machine.{noted}
+use Rattle.machine.specs.Ops.{noted}
 use Rattle.bbq_core.proofs.Trails.{TrailRecalls, TrailShows, trail_shows}
 use Rattle.call_steps.specs.Steps.{Leads, logged, value_of}
 

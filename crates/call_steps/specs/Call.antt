@@ -13,9 +13,8 @@ use Rattle.step_log.specs.declared.step.Taken.{Taken}
 use Rattle.bbq_core.specs.declared.phase.Phase.{Phase}
 use Rattle.bbq_core.specs.declared.phase.Phase.TheVariants as phase
 use Rattle.bbq_core.specs.declared.take_phase.TakePhase.TheVariants.{Read}
-use Rattle.bbq_core.specs.declared.view.View.{View}
-use Rattle.bbq_core.specs.declared.op.After.{After}
-use Rattle.bbq_core.specs.declared.op.After.TheVariants.{Next, Done}
+use Rattle.bbq_core.specs.Types.{View, After}
+use Rattle.machine.specs.declared.op.After.TheVariants.{Next, Done}
 use Rattle.bbq_core.specs.PutSteps.{after, rank}
 use Rattle.call_steps.specs.Steps.{Leads, value_of}
 

@@ -3,10 +3,10 @@ use Rattle.std.specs.Prelude.{◌≡◌, ℕ, List, [], ◌∷◌, Option, Some,
 use Rattle.cursor_word.specs.Shape.{Grid}
 use Rattle.step_log.specs.declared.step.Taken.{Taken}
 use Rattle.step_log.specs.Log.{loaded, stored, added, raised}
-use Rattle.bbq_core.specs.declared.op.Op.{Op}
-use Rattle.bbq_core.specs.declared.op.Op.TheVariants.{Load, Store, AddOne, Max}
-use Rattle.bbq_core.specs.declared.op.After.{After}
-use Rattle.bbq_core.specs.declared.op.After.TheVariants.{Next, Done}
+use Rattle.machine.specs.declared.op.Op.{Op}
+use Rattle.machine.specs.declared.op.Op.TheVariants.{Load, Store, AddOne, Max}
+use Rattle.bbq_core.specs.Types.{After}
+use Rattle.machine.specs.declared.op.After.TheVariants.{Next, Done}
 use Rattle.bbq_core.specs.PutSteps.{after, want}
 
 -- what the log of a seat gains by this step, where the word was n

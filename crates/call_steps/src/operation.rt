@@ -1,7 +1,7 @@
 //! One step of any kind.
 ghost use Rattle.std.specs.Prelude.{◌≡◌, ◌<◌, ◌++◌, [], ◌∷◌};
 ghost use Rattle.step_log.specs.Log.{Keeps};
-ghost use Rattle.bbq_core.specs.Machine.{index, moved};
+ghost use Rattle.machine.specs.Ops.{index, moved};
 ghost use Rattle.call_steps.specs.Steps.{logged, value_of};
 
 use bbq_core::Op;

@@ -1,10 +1,10 @@
 //! The rule under which calls do the machine's steps, and what each step tells.
 ghost use Rattle.std.specs.Prelude.{ℕ};
 ghost use Rattle.cursor_word.specs.Shape.{Grid};
-ghost use Rattle.bbq_core.specs.declared.event.Start.{Start};
-ghost use Rattle.bbq_core.specs.declared.event.Start.TheVariants.{Go};
+ghost use Rattle.machine.specs.declared.event.Start.{Start};
+ghost use Rattle.machine.specs.declared.event.Start.TheVariants.{Go};
 ghost use Rattle.bbq_core.specs.declared.phase.Phase.{Phase};
-ghost use Rattle.bbq_core.specs.declared.view.View.{View};
+ghost use Rattle.bbq_core.specs.Types.{View};
 ghost use Rattle.call_steps.specs.Rule.{DoesStep};
 
 use std::marker::{Brand, PhantomData};

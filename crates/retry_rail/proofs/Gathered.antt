@@ -9,7 +9,7 @@ use Rattle.std.specs.List.{range_with_len}
 use Rattle.bbq_core.proofs.Commits.{get_push}
 use Rattle.cursor_word.specs.Shape.{Grid}
 use Rattle.step_log.specs.Log.{Sitting}
-use Rattle.bbq_core.specs.declared.view.View.{View}
+use Rattle.bbq_core.specs.Types.{View}
 use Rattle.retry_rail.specs.declared.holding.Holding.{Holding}
 use Rattle.rail.specs.Outcome.{numbers_below}
 use Rattle.bbq_core.specs.Machine.{resting}

@@ -8,7 +8,7 @@ use lib.ListN.{get_elem?}
 use Rattle.cursor_word.specs.Shape.{Grid}
 use Rattle.step_log.proofs.Lists.{at_set, at_snoc}
 use Rattle.step_log.specs.Log.{Parts, Merges}
-use Rattle.bbq_core.specs.declared.view.View.{View}
+use Rattle.bbq_core.specs.Types.{View}
 use Rattle.retry_rail.specs.declared.holding.Holding.{Holding}
 use Rattle.retry_rail.specs.Holding.{IsHeld, first_seat, joint_seats, no_seats, other_seats, views_of}
 use Rattle.retry_rail.proofs.Permuted.{sound_permuted, stands}

@@ -3,10 +3,11 @@ use Rattle.std.proofs.Common.{◌≡◌, [], ◌∷◌, length, refl, sym, ap, �
 use Rattle.std.specs.Prelude.{Option, Some, slice_index, slice_set}
 use Rattle.cursor_word.specs.Shape.{Grid}
 use Rattle.step_log.specs.Log.{Keeps}
-use Rattle.bbq_core.specs.declared.event.Start.{Start}
+use Rattle.machine.specs.declared.event.Start.{Start}
 use Rattle.bbq_core.specs.declared.phase.Phase.{Phase}
 use Rattle.bbq_core.specs.PutSteps.{want}
-use Rattle.bbq_core.specs.Machine.{begun, index, moved}
+use Rattle.bbq_core.specs.Machine.{begun}
+use Rattle.machine.specs.Ops.{index, moved}
 use Rattle.call_steps.specs.Rule.{IsMachines, MayDo, Moves, in_call}
 use Rattle.call_steps.specs.Steps.{logged, value_of}
 use Rattle.retry_rail.specs.declared.holding.Holding.{Holding}

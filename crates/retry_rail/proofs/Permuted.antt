@@ -5,7 +5,7 @@ use Rattle.std.proofs.lemmas.List.Sorted.{IsPermutation-sym, sum_by-IsPermutatio
 use Rattle.std.proofs.lemmas.Option.{slice_get-get_or, slice_get_within, get_or_from_slice_get}
 use Rattle.cursor_word.specs.Shape.{Grid}
 use Rattle.rail.specs.declared.entry.Placed.{Placed}
-use Rattle.bbq_core.specs.declared.view.View.{View}
+use Rattle.bbq_core.specs.Types.{View}
 use Rattle.bbq_core.specs.Blocks.{allocated_word, committed_word, consumed_word, place}
 use Rattle.bbq_core.specs.Counts.{Counts, adds, claim_count, claims, fetch_count, fetches, makes, sum_below, takes}
 use Rattle.bbq_core.specs.Sound.{IsMade, IsSound, IsSoundAt}

@@ -1,10 +1,11 @@
 -- The machine's views and steps in the views of this queue's seats, and what the rule tells of the values that steps find.
 use Rattle.std.specs.Prelude.{◌≡◌, ℕ, ◌≤◌, [], ◌∷◌, None, length}
 use Rattle.cursor_word.specs.Cursor.{place_span}
-use Rattle.bbq_core.specs.declared.event.Start.{Start}
+use Rattle.machine.specs.declared.event.Start.{Start}
 use Rattle.bbq_core.specs.declared.phase.Phase.{Phase}
 use Rattle.bbq_core.specs.PutSteps.{after}
-use Rattle.bbq_core.specs.Machine.{MachineState, begun, seen}
+use Rattle.bbq_core.specs.Machine.{begun, seen}
+use Rattle.bbq_core.specs.Types.{MachineState}
 use Rattle.bbq_core.proofs.Outcomes.{Tells}
 use Rattle.call_steps.specs.Rule.{MayFind}
 use Rattle.retry_rail.specs.declared.holding.Holding.{Holding}
@@ -27,4 +28,4 @@ pub record IsFound (h : Holding) (p : Phase) (n : ℕ) : Type 0 where
   pub may : MayFind h.shape p n
   pub state : MachineState
   pub tells : Tells h.shape state (view_in h) p (after h.shape p n)
-  pub few : length (view_in h).taken ≤ place_span
+  pub few : length (view_in h).taken ≤ place_span h.shape

@@ -6,8 +6,9 @@ use Rattle.rail.specs.declared.answer.Take.{Take}
 use Rattle.rail.specs.declared.answer.Take.TheVariants as take
 use Rattle.step_log.specs.Log.{Sitting}
 use Rattle.step_log.specs.declared.step.Taken.{Taken}
-use Rattle.bbq_core.specs.declared.view.View.{View}
-use Rattle.bbq_core.specs.Machine.{AllRest, resting}
+use Rattle.bbq_core.specs.Types.{View}
+use Rattle.bbq_core.specs.Machine.{resting}
+use Rattle.machine.specs.Steps.{AllRest}
 use Rattle.retry_rail.specs.declared.holding.Holding.{Holding}
 use Rattle.call_steps.specs.Queue.{Queue, no_grid}
 

@@ -8,7 +8,7 @@ use Rattle.rail.specs.declared.answer.Put.TheVariants as put
 use Rattle.rail.specs.declared.answer.Take.{Take}
 use Rattle.rail.specs.declared.answer.Take.TheVariants as take
 use Rattle.step_log.specs.declared.step.Taken.{Taken}
-use Rattle.bbq_core.specs.declared.view.View.{View}
+use Rattle.bbq_core.specs.Types.{View}
 use Rattle.call_steps.specs.Queue.{Queue}
 
 -- the seat: its queue, what the machine knows of it, and the steps that it took

@@ -1,7 +1,8 @@
 use Rattle.bbq_core.proofs.causes.law_causes.Goals as goal
-use Rattle.bbq_core.proofs.Answered.{answered}
-use Rattle.bbq_core.proofs.Overlaps.{put_overlapped, take_overlapped}
-use Rattle.bbq_core.proofs.Schedules.{empty_shown, full_shown, no_overrun, put_busy, remembered, take_busy}
+use Rattle.machine.proofs.Answered.{answered}
+use Rattle.bbq_core.specs.Table.{table}
+use Rattle.bbq_core.proofs.LoneLaw.{put_overlapped, take_overlapped}
+use Rattle.bbq_core.proofs.Shown.{empty_shown, full_shown, no_overrun, put_busy, take_busy, trail_is}
 
 pub returns-clause-full : goal.returns-clause-full
 returns-clause-full c = full_shown c.args.shape.now c.args.events.now c.blocks-blocks.ensures.limits c.requires.suits c.requires.few
@@ -19,10 +20,10 @@ pub returns-clause-overrun : goal.returns-clause-overrun
 returns-clause-overrun c = no_overrun c.args.shape.now c.args.events.now c.blocks-blocks.ensures.limits c.requires.suits c.requires.few
 
 pub returns-clause-trail : goal.returns-clause-trail
-returns-clause-trail c = λ seat n v here. (remembered c.args.shape.now c.args.events.now c.blocks-blocks.ensures.limits c.requires.suits c.requires.few n seat v here).told
+returns-clause-trail c = λ seat n v here. (trail_is c.args.shape.now c.args.events.now c.blocks-blocks.ensures.limits c.requires.suits c.requires.few n seat v here).told
 
 pub returns-clause-answered : goal.returns-clause-answered
-returns-clause-answered c = λ seat n v a. answered c.args.shape.now c.args.events.now seat a n v
+returns-clause-answered c = λ seat n v a. answered table c.args.shape.now c.args.events.now seat a n v
 
 pub returns-clause-put_overlapped : goal.returns-clause-put_overlapped
 returns-clause-put_overlapped c = put_overlapped c.args.shape.now c.args.events.now c.blocks-blocks.ensures.limits c.requires.suits c.requires.few

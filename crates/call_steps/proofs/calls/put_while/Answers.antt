@@ -1,5 +1,5 @@
 use Rattle.std.proofs.Common.{ap, sym, ◌∙◌}
-use Rattle.bbq_core.specs.declared.op.After.TheVariants.{Next}
+use Rattle.machine.specs.declared.op.After.TheVariants.{Next}
 use Rattle.call_steps.proofs.Loop.{put_at}
 use Rattle.call_steps.proofs.calls.put_while.Goals as goal
 

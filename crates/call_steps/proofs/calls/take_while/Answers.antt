@@ -1,5 +1,5 @@
 use Rattle.std.proofs.Common.{ap, sym, ◌∙◌}
-use Rattle.bbq_core.specs.declared.op.After.TheVariants.{Next}
+use Rattle.machine.specs.declared.op.After.TheVariants.{Next}
 use Rattle.call_steps.proofs.Loop.{take_at}
 use Rattle.call_steps.proofs.calls.take_while.Goals as goal
 
