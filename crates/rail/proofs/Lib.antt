@@ -1,5 +1,6 @@
 pub mod Rising
 pub mod Dense
+pub mod Newest
 pub mod Live
 pub mod Whole
 pub mod ListSeats

@@ -1,5 +1,5 @@
 -- What a closed queue has.
-use Rattle.std.specs.Prelude.{◌≡◌, ℕ, ◌≤◌, List, length, drop, take, filter, not, nat_eq, nat_le, ◌==◌, ◌&&◌, Bool, Contains, IsPermutation}
+use Rattle.std.specs.Prelude.{◌≡◌, ℕ, ◌+◌, ◌-◌, ◌*◌, ◌<◌, ◌≤◌, ◌⊎◌, List, length, drop, take, filter, not, nat_eq, nat_le, ◌==◌, ◌&&◌, Bool, Contains, IsPermutation}
 use Rattle.std.specs.List.{range_with_len, All, IsDistinct, list_any}
 use Rattle.rail.specs.declared.entry.Placed.{Placed}
 use Rattle.rail.specs.Items.{places}
@@ -31,3 +31,15 @@ pub record DropOutcome (g : Grid) (accepted taken left : List Placed) : Type 0 w
   pub taken_accepted : All (Contains accepted) taken
   pub taken_once : IsDistinct nat_eq (places taken)
   pub rest_left : left ≡ filter (is_left g (length accepted) taken) accepted
+
+-- an accepted item was taken, or is left
+abbrev pub IsTakenOrLeft : List Placed → List Placed → Placed → Type 0
+IsTakenOrLeft taken left item = Contains taken item ⊎ Contains left item
+
+-- What a drop outcome comes to: an accepted item that is neither taken nor left lies in a block that
+-- was reused, and the newest items, as many as all blocks but one hold, are taken or left.
+pub record KeepsNewest (g : Grid) (accepted taken left : List Placed) : Type 0 where
+  pub reused : (item : Placed) → Contains accepted item
+      → (item.place < low g (length accepted)) ⊎ IsTakenOrLeft taken left item
+  pub newest : (item : Placed) → Contains accepted item
+      → length accepted ≤ item.place + (g.blocks - 1) * g.size → IsTakenOrLeft taken left item

@@ -1,0 +1,102 @@
+-- A call that is done alone, from its beginning to its answer.
+use Rattle.std.proofs.Common.{◌≡◌, ℕ, ◌+◌, List, length, refl, sym, ap, ◌∙◌, inl, ⊎_elim, arith, ◌≤◌}
+use Rattle.std.specs.Prelude.{Some, None, slice_get, slice_set}
+use Rattle.std.proofs.lemmas.List.{length-append}
+use Rattle.cursor_word.specs.Shape.{Grid, IsWithinLimits}
+use Rattle.cursor_word.specs.Cursor.{place_span}
+use Rattle.rail.specs.declared.answer.Answer.{Answer}
+use Rattle.rail.specs.declared.answer.Answer.TheVariants as answer
+use Rattle.rail.specs.declared.answer.Put.TheVariants as put
+use Rattle.rail.specs.declared.entry.Placed.{Placed}
+use Rattle.rail.specs.Items.{places}
+use Rattle.machine.specs.declared.event.Start.TheVariants as start
+use Rattle.machine.specs.declared.op.After.TheVariants.{Next, Done}
+use Rattle.machine.specs.Invariant.{made_count, made_total}
+use Rattle.machine.specs.Steps.{begun, finds, made_after, phase_after, view_after, words_after}
+use Rattle.machine.proofs.Lists.{get_set, get_set_other, sum_set}
+use Rattle.put_side.specs.Counts.{times}
+use Rattle.put_side.proofs.Sums.{sum_same}
+use Rattle.drop_core.specs.declared.phase.DropPhase.{DropPhase}
+use Rattle.drop_core.specs.Types.{After, View}
+use Rattle.drop_core.specs.PutSteps.{after, first_put}
+use Rattle.drop_core.specs.TakeSteps.{first_take}
+use Rattle.drop_core.specs.Steps.{table}
+use Rattle.drop_core.specs.Words.{cursors}
+use Rattle.drop_core.specs.Counts.{takes}
+use Rattle.drop_core.specs.Sound.{IsSound}
+use Rattle.drop_core.specs.Alone.{GoesOnAlone, IsAlone, IsNext, IsStill, KnowsAlone, OthersRest, accepts}
+use Rattle.drop_core.proofs.Keeping.{keeps}
+use Rattle.drop_core.proofs.History.{next_by, next_step}
+use Rattle.drop_core.proofs.LoneSteps.{Leads}
+use Rattle.drop_core.proofs.AlonePuts.{step_leads}
+
+others_still : (vs : List View) (id : ℕ) (v' : View) → OthersRest vs id → OthersRest (slice_set vs id v') id
+others_still vs id v' rest j u d e = rest j u d (sym (get_set_other vs id j v' d) ∙ e)
+
+total_grows : (vs : List View) (id more n : ℕ) (v v' : View) → slice_get vs id ≡ Some v → made_count v' ≡ made_count v + more → made_total vs ≡ n → made_total (slice_set vs id v') ≡ n + more
+total_grows vs id more n v v' at e total = let z = sum_set made_count vs id v v' at in omega arith
+
+accepts_more : (made : List Placed) (entry : List ℕ) (a : Answer) → length (made_after {P = DropPhase} made entry (Done a)) ≡ length made + accepts a
+accepts_more made entry (answer.Put (put.Ok place)) = length-append made _
+accepts_more made entry (answer.Put (put.Full head consumed)) = omega arith
+accepts_more made entry (answer.Put (put.Busy reason)) = omega arith
+accepts_more made entry (answer.Take q) = omega arith
+
+module _ (g : Grid) (n next : ℕ) (ws : List ℕ) (vs : List View) (id : ℕ) (v : View) (p : DropPhase) (limits : IsWithinLimits g) (alone : IsAlone g n next ws vs id p) (room : n ≤ place_span g) (at : slice_get vs id ≡ Some v) (e : v.phase ≡ Some p) where
+  abbrev ws' : List ℕ
+  ws' = words_after table g ws v p
+
+  abbrev v' : View
+  v' = view_after table g ws v p
+
+  few : made_total vs ≤ place_span g
+  few = let total = alone.made in omega arith
+
+  sound' : IsSound g ws' (slice_set vs id v')
+  sound' = keeps.steps g ws vs id v p limits alone.sound few at e
+
+  goes_by : (b : After) → after g p (finds table g ws v p) ≡ b → Leads g n next ws' b → IsNext g (cursors g ws') (slice_set vs id v') (next_by next b) → GoesOnAlone g n next ws' (slice_set vs id v') id b
+  goes_by (Next q) is leads answered = record {
+    sound = sound';
+    others = others_still vs id v' alone.others;
+    made = total_grows vs id 0 n v v' at (let z = ap (λ (b : After). length (made_after v.made v.entry b)) is in omega arith) alone.made ∙ omega arith;
+    answered = answered;
+    knows = leads;
+  }
+  goes_by (Done a) is leads answered = (
+    leads,
+    record {
+      sound = sound';
+      rest = λ j u h. ⊎_elim (λ q. sym (ap (λ (x : View). x.phase) q.1) ∙ ap phase_after is) (λ q. alone.others j u q.0 q.1) (get_set vs id j v' u h);
+      made = total_grows vs id (accepts a) n v v' at (ap (λ (b : After). length (made_after v.made v.entry b)) is ∙ accepts_more v.made v.entry a) alone.made;
+      answered = answered;
+    },
+  )
+
+  -- a step of a seat alone: it goes on alone, or all seats are at rest and the answer is what one thread is answered
+  pub goes_alone : GoesOnAlone g n next ws' (slice_set vs id v') id (after g p (finds table g ws v p))
+  goes_alone =
+      let s = alone.sound in
+      goes_by (after g p (finds table g ws v p)) refl
+      (step_leads g n next s.front ws vs id v p record { limits = limits; sound = s.at; at = at; phase = e; others = alone.others; made = alone.made; answered = alone.answered; knows = alone.knows })
+      (next_step g s.front ws vs limits s.at few id v at p e next alone.answered)
+
+module _ (g : Grid) (n next : ℕ) (ws : List ℕ) (vs : List View) (id : ℕ) (v v' : View) (limits : IsWithinLimits g) (s : IsStill g n next ws vs) (at : slice_get vs id ≡ Some v) where
+  begins : (p : DropPhase) → v'.made ≡ v.made → v'.taken ≡ v.taken → IsSound g ws (slice_set vs id v') → KnowsAlone g n next ws p → IsAlone g n next ws (slice_set vs id v') id p
+  begins p made taken sound knows = record {
+    sound = sound;
+    others = λ j u d e. s.rest j u (sym (get_set_other vs id j v' d) ∙ e);
+    made = sum_same made_count vs id v v' at (ap (λ (l : List Placed). length l) made) ∙ s.made;
+    answered = record { taken = λ q le. sum_same (takes q) vs id v v' at (ap (λ (l : List Placed). times q (places l)) taken) ∙ s.answered.taken q le; behind = s.answered.behind };
+    knows = knows;
+  }
+
+-- where all seats are at rest one begins a put, or a take
+pub put_alone : (g : Grid) (n next : ℕ) (ws : List ℕ) (vs : List View) (id : ℕ) (v : View) (entry : List ℕ) → IsWithinLimits g → IsStill g n next ws vs → slice_get vs id ≡ Some v → length entry ≡ g.width
+    → IsAlone g n next ws (slice_set vs id (begun table g v None (start.Put entry))) id first_put
+put_alone g n next ws vs id v entry limits s at wide =
+    begins g n next ws vs id v (begun table g v None (start.Put entry)) limits s at first_put refl refl (keeps.begins g ws vs id v (start.Put entry) limits s.sound at (s.rest id v at) wide tt) (inl refl)
+
+pub take_alone : (g : Grid) (n next : ℕ) (ws : List ℕ) (vs : List View) (id : ℕ) (v : View) → IsWithinLimits g → IsStill g n next ws vs → slice_get vs id ≡ Some v → IsAlone g n next ws (slice_set vs id (begun table g v None start.Take)) id first_take
+take_alone g n next ws vs id v limits s at =
+    begins g n next ws vs id v (begun table g v None start.Take) limits s at first_take refl refl (keeps.begins g ws vs id v start.Take limits s.sound at (s.rest id v at) tt tt) (inl refl)

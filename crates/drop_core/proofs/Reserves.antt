@@ -1,0 +1,143 @@
+-- A place is reserved, or was reserved by another take.
+use Rattle.std.proofs.Common.{◌≡◌, ℕ, ◌+◌, ◌-◌, ◌*◌, ◌/◌, ◌%◌, ◌<◌, ◌≤◌, max, List, [], length, refl, sym, ap, ◌∙◌, subst, ⊎_elim, arith}
+use Rattle.std.specs.Prelude.{Some, slice_get, slice_set, slice_index}
+use Rattle.std.specs.List.{sum_by}
+use Rattle.std.proofs.lemmas.Bool.{cases_eq, cases_lt}
+use Rattle.std.proofs.lemmas.Bool.Decides.{nat_tests}
+use Rattle.std.proofs.lemmas.List.{append-nil}
+use Rattle.std.proofs.lemmas.Nat.{mod_below, same_from_place}
+use Rattle.cursor_word.specs.Shape.{Grid, IsWithinLimits}
+use Rattle.cursor_word.specs.Cursor.{offset_span, packed, place_at, unpacked}
+use Rattle.cursor_word.specs.declared.cursor.Cursor.{Cursor}
+use Rattle.rail.specs.Items.{IsRising, places}
+use Rattle.machine.specs.declared.op.After.TheVariants.{Next}
+use Rattle.machine.specs.Steps.{view_after, words_after}
+use Rattle.machine.proofs.Lists.{sum_set}
+use Rattle.put_side.specs.Cursors.{place, Front}
+use Rattle.put_side.specs.Counts.{makes, one_at, times}
+use Rattle.put_side.specs.PutTable.{stage_in}
+use Rattle.put_side.proofs.Sums.{rising_push, times_push}
+use Rattle.put_side.proofs.Commits.{one_apart, one_met}
+use Rattle.drop_core.specs.declared.phase.DropPhase.TheVariants.{Take}
+use Rattle.drop_core.specs.declared.take_phase.DropTake.{DropTake}
+use Rattle.drop_core.specs.declared.take_phase.DropTake.TheVariants.{Reserve, Read}
+use Rattle.drop_core.specs.Types.{View}
+use Rattle.drop_core.specs.Steps.{table}
+use Rattle.drop_core.specs.Stage.{stage}
+use Rattle.drop_core.specs.Words.{IsGone, cursors, reserved_word}
+use Rattle.drop_core.specs.Counts.{fetched, fetches, raises_consumer, reading, reading_in}
+use Rattle.drop_core.specs.Sound.{AreBelow, IsSoundAt}
+use Rattle.drop_core.proofs.Frames.{after_step, attended_stays, passed_later}
+use Rattle.drop_core.proofs.Loads.{IsNextDrop, knows_take, loads_take, moved_next, pick_equal}
+use Rattle.put_side.proofs.Made.{made_same}
+use Rattle.put_side.proofs.Items.{made_there}
+use Rattle.drop_core.proofs.TakeFrames.{fetched_reading, manned_stay, puts_stay, raised, reserved_at, seen_by, take_later}
+
+one_is : (p : ℕ) → one_at p p ≡ 1
+one_is p = grind (arith, nat_tests)
+
+pub reads_some : (g : Grid) (r : Cursor) (q : DropTake) → Some (Take (Read r 0)) ≡ Some (Take q) → reading_in g q ≡ [] → (read : List ℕ) → read ≡ []
+reads_some g r q e n read = let z : reading g (Some (Take (Read r 0))) ≡ reading g (Some (Take q)) = ap (reading g) e in let y = z ∙ n in cc
+
+-- the place of a cursor is that of no other
+pub same_place : (g : Grid) (k o : ℕ) (r : Cursor) → g.blocks ≤ k → g.blocks ≤ r.block → o < g.size → r.offset < g.size → place_at g r ≡ place g k o → (k ≡ r.block) × (o ≡ r.offset)
+same_place g k o r lk lr lo lw e = let q = same_from_place (r.block - g.blocks) r.offset (k - g.blocks) o g.size lw lo e in (omega (arith, q.0), sym q.1)
+
+module _ (g : Grid) (f : Front) (ws : List ℕ) (vs : List View) (limits : IsWithinLimits g) (s : IsSoundAt g f ws vs) (id : ℕ) (v : View) (at : slice_get vs id ≡ Some v) (r : Cursor) (e : v.phase ≡ Some (Take (Reserve r))) where
+  abbrev found : ℕ
+  found = reserved_word g ws r.block
+
+  abbrev past : ℕ
+  past = max found (packed r + 1)
+
+  abbrev after_reserve : List ℕ
+  after_reserve = slice_set ws (4 + 4 * (r.block % g.blocks)) past
+
+  -- the reserved cursor is raised past a place, which no seat has taken or reads
+  reserves : found ≡ packed r → IsSoundAt g f after_reserve (slice_set vs id (seen_by v (Next (Take (Read r 0))) v.read found))
+  reserves is =
+      let v' : View = seen_by v (Next (Take (Read r 0))) v.read found in
+      let vs' : List View = slice_set vs id v' in
+      let p : ℕ = place_at g r in
+      let k = knows_take g f ws vs limits s id v at (Reserve r) e in
+      let h = k.0 in
+      let small = limits.size_to in
+      let within = h.within in
+      let t = s.takes in
+      let c = s.counts in
+      let low = mod_below r.block g.blocks (omega (arith, limits.blocks_from)) in
+      let long : 4 + 4 * (r.block % g.blocks) < length ws = omega (arith, s.puts.all) in
+      let up = raised g ws r.block past long in
+      let x : past ≡ packed r + 1 = omega arith in
+      let later = take_later g f ws vs s id v at (4 + 4 * (r.block % g.blocks)) past (reserved_at g r.block limits) (omega arith) long in
+      let grow = made_same vs id v v' at refl in
+      let none : reading g v.phase ≡ [] = ap (reading g) e in
+      let mine : fetched g v ≡ places v.taken = fetched_reading g v [] none ∙ append-nil _ in
+      let more : (q : ℕ) → sum_by (fetches g q) vs' ≡ sum_by (fetches g q) vs + one_at p q = λ q.
+      let n = sum_set (fetches g q) vs id v v' at in let a : fetches g q v ≡ times q (places v.taken) = ap (times q) mine in let b : fetches g q v' ≡ times q (places v.taken) + one_at p q = times_push q p (places v.taken) in omega arith in
+      let free : sum_by (fetches g p) vs ≡ 0 = ⊎_elim (λ z. omega arith) (λ z. absurd (let w = c.gone r.block r.offset h.from h.within z in omega arith)) (cases_lt (sum_by (fetches g p) vs) 1) in
+      let block : past / offset_span ≡ found / offset_span = omega arith in
+      let by : (b : ℕ) → (b % g.blocks ≡ r.block % g.blocks → reserved_word g ws b ≡ found) = λ b q. ap (λ (z : ℕ). slice_index ws (4 + 4 * z)) q in
+      let same : (b : ℕ) → reserved_word g after_reserve b / offset_span ≡ reserved_word g ws b / offset_span =
+      λ b. ⊎_elim (λ q. let y = up.there b q in let z = by b q in omega arith) (λ q. ap (λ (w : ℕ). w / offset_span) (up.elsewhere b q)) (cases_eq (b % g.blocks) (r.block % g.blocks)) in
+      let first = made_there vs p k.1 in
+      let own = s.each id v at in
+      let empty : v.read ≡ [] = own.unread (Reserve r) e refl in
+      after_step g f f ws after_reserve vs id v v' s at later grow
+      (puts_stay g f ws vs s id v at (4 + 4 * (r.block % g.blocks)) past (reserved_at g r.block limits) v' (ap (stage_in stage) e) record { made = refl; entry = refl; stands = refl })
+      (manned_stay g f ws vs s id v at (4 + 4 * (r.block % g.blocks)) past (reserved_at g r.block limits) v' (ap (stage_in stage) e))
+      record {
+        same = λ b. ap (λ (w : ℕ). w % g.blocks) (same b) ∙ t.same b;
+        to = λ b. let q = same b in let n = t.to b in omega arith;
+        most = λ b. ⊎_elim (λ q. let y = up.there b q in omega arith) (λ q. let y = up.elsewhere b q in let n = t.most b in omega arith) (cases_eq (b % g.blocks) (r.block % g.blocks));
+        made = λ b o from in_block above here.
+            let m = grow.counts (place g b o) in
+            let there = sym (same b) ∙ here in
+            ⊎_elim
+            (λ q. let y = up.there b q in let z = by b q in
+            ⊎_elim (λ l. let n = t.made b o from in_block (omega arith) there in omega arith)
+            (λ l. let bk : b ≡ r.block = omega arith in let ok : o ≡ r.offset = omega arith in
+            let n : 1 ≤ sum_by (makes (place g b o)) vs = subst (λ (z : ℕ). 1 ≤ sum_by (makes (place g z o)) vs) (sym bk) (subst (λ (z : ℕ). 1 ≤ sum_by (makes (place g r.block z)) vs) (sym ok) k.1) in omega arith)
+            (cases_lt (b * offset_span + o) (packed r)))
+            (λ q. let y = up.elsewhere b q in let n = t.made b o from in_block (omega arith) there in omega arith)
+            (cases_eq (b % g.blocks) (r.block % g.blocks));
+        passed = λ b j l. let q = same b in passed_later g f.last f.last (cursors g ws) (cursors g after_reserve) later j (t.passed b j (omega arith));
+        head_from = let q = up.consumer in let n = t.head_from in omega arith;
+        head = let q = up.consumer in let n = t.head in let m = later.reserved (slice_index ws 1) in let z : reserved_word g after_reserve (slice_index after_reserve 1) ≡ reserved_word g after_reserve (slice_index ws 1) = ap (reserved_word g after_reserve) q in omega arith;
+      }
+      record {
+        once = λ q. let n = more q in let o = c.once q in ⊎_elim (λ z. let y = ap (λ (w : ℕ). sum_by (fetches g w) vs) z in let one = one_met p q z in omega arith) (λ z. let y = one_apart p q z in omega arith) (cases_eq p q);
+        gone = λ b o from in_block taken. let n = more (place g b o) in
+            ⊎_elim (λ z. let y = same_place g b o r from h.from in_block h.within z in let w = up.there b (ap (λ (m : ℕ). m % g.blocks) y.0) in omega (arith, y.0, y.1))
+            (λ z. let y = one_apart p (place g b o) z in let w = c.gone b o from in_block (omega arith) in let m = later.reserved b in omega arith)
+            (cases_eq p (place g b o));
+        kept = λ b o from near in_block gone. let n = more (place g b o) in
+            ⊎_elim (λ z. let one = one_met p (place g b o) z in omega arith)
+            (λ z. let old : IsGone (cursors g ws) b o = ⊎_elim
+            (λ q. let y = up.there b q in let w = by b q in ⊎_elim (λ l. omega arith) (λ l. let bk : b ≡ r.block = omega arith in let ok : o ≡ r.offset = omega arith in
+            absurd (z (ap (λ (m : ℕ). place g m r.offset) (sym bk) ∙ ap (place g b) (sym ok)))) (cases_lt (b * offset_span + o) (packed r)))
+            (λ q. let y = up.elsewhere b q in omega arith) (cases_eq (b % g.blocks) (r.block % g.blocks)) in
+            let w = c.kept b o from near in_block old in omega arith)
+            (cases_eq p (place g b o));
+      }
+      (λ b. attended_stays vs id v v' at (cursors g ws) (cursors g after_reserve) b (same b) (let q = up.consumer in omega arith) (ap (raises_consumer _) e) (s.attended b))
+      record {
+        knows = (record { from = h.from; to = let q = up.consumer in omega (arith, h.to); within = h.within; words = first.0; made = grow.items _ first.1; long = ap (λ (l : List ℕ). length l) empty; front = λ z. empty }, limits.width_from);
+        rising = rising_push (places v.taken) p (subst IsRising mine own.rising) h.above;
+        items = λ i item z. grow.items item (own.items i item z);
+        to_head = subst (λ (n : ℕ). AreBelow v.taken (place g (n + 1) 0)) (sym up.consumer) own.to_head;
+        unread = λ q z n. reads_some g r q z n v.read;
+      }
+
+  -- the reserved cursor is raised past a place
+  pub keeps_Reserve : IsSoundAt g f (words_after table g ws v (Take (Reserve r))) (slice_set vs id (view_after table g ws v (Take (Reserve r))))
+  keeps_Reserve =
+      let i : ℕ = 4 + 4 * (r.block % g.blocks) in
+      let h = (knows_take g f ws vs limits s id v at (Reserve r) e).0 in
+      ⊎_elim
+      (λ q. pick_equal (λ b. IsSoundAt g f after_reserve (slice_set vs id (seen_by v b v.read found))) found (packed r) _ _ (λ z. reserves q) (λ z. absurd (z q)))
+      (λ q. let x : past ≡ found = let known = h.known in omega arith in
+      subst (λ (z : ℕ). IsSoundAt g f (slice_set ws i z) (slice_set vs id (view_after table g ws v (Take (Reserve r))))) (sym x)
+      (loads_take g f ws vs limits s id v at (Reserve r) i e (λ b. refl) refl refl
+      (pick_equal (λ b. IsNextDrop g f.last (cursors g ws) vs v.taken v.read b) found (packed r) _ _ (λ z. absurd (q z)) (λ z. moved_next g f.last (cursors g ws) vs v.taken v.read r (unpacked found)))))
+      (cases_eq found (packed r))

@@ -1,0 +1,145 @@
+-- Where all seats are at rest, the accepted items of the blocks that aren't reused stand in the words.
+use Rattle.std.proofs.Common.{◌≡◌, ℕ, zero, suc, ◌+◌, ◌-◌, ◌*◌, ◌/◌, ◌<◌, ◌≤◌, ◌⊎◌, List, [], ◌∷◌, ◌++◌, Bool, true, false, cond, length, get_or, refl, sym, ap, ◌∙◌, ⊎_elim, arith, append-nil}
+use Rattle.std.specs.Prelude.{Option, Contains, filter, map, nat_le, ◌&&◌}
+use Rattle.std.specs.List.{range_with_len, sum_by}
+use Rattle.std.proofs.lemmas.Bool.{cases_lt}
+use Rattle.std.proofs.lemmas.Bool.Decides.{nat_tests}
+use Rattle.std.proofs.lemmas.List.{same_lists}
+use Rattle.std.proofs.lemmas.List.FromFn.{filter_of_map_range_with_len_more, get_or-map-range_with_len, length-map-range_with_len}
+use Rattle.std.proofs.lemmas.Nat.{div-add-mod', mod_below}
+use Rattle.std.proofs.lemmas.Option.{get_or_from_slice_get, slice_get-get_or}
+use Rattle.std.proofs.Math.Nat.{mul-le-mul_right}
+use Rattle.cursor_word.specs.Shape.{Grid, IsWithinLimits}
+use Rattle.cursor_word.specs.Cursor.{low}
+use Rattle.rail.specs.declared.entry.Placed.{Placed}
+use Rattle.rail.specs.Items.{placed, places}
+use Rattle.rail.specs.Outcome.{is_left, numbers_below, DropOutcome}
+use Rattle.machine.specs.Invariant.{made_total}
+use Rattle.machine.specs.Steps.{AllRest, MachineState}
+use Rattle.put_side.specs.Cursors.{allocated_word, place, Front, put_cursors}
+use Rattle.put_side.specs.Counts.{times}
+use Rattle.put_side.specs.PutTable.{stage_in, stage_of}
+use Rattle.put_side.proofs.Facts.{allocated_to, place_next}
+use Rattle.put_side.proofs.Stores.{made_block}
+use Rattle.drop_core.specs.declared.phase.DropPhase.{DropPhase}
+use Rattle.drop_core.specs.Types.{View}
+use Rattle.drop_core.specs.Stage.{stage}
+use Rattle.drop_core.specs.Counts.{fetches, reading}
+use Rattle.drop_core.specs.Gathered.{IsSettled, left_in}
+use Rattle.drop_core.specs.Sound.{IsSound, IsSoundAt}
+use Rattle.put_side.specs.Entries.{IsPresent}
+use Rattle.put_side.specs.Gathered.{all_made, all_taken, entry_at}
+use Rattle.put_side.proofs.Orders.{in_order, order_length, stands_at, stands_from}
+use Rattle.drop_core.proofs.Lows.{low_at}
+use Rattle.put_side.proofs.Gathers.{StandsIn, distinct, has_in, stands_in, times_all}
+use Rattle.put_side.proofs.Rests.{NonePuts, claims_all, claims_number, last_entered, last_open, made_at}
+use Rattle.put_side.proofs.Sums.{sum_alike}
+use Rattle.rail.proofs.Newest.{keeps_newest}
+
+-- what holds of the test that an item is left
+left_from : (a b : Bool) → (a && b) ≡ true → a ≡ true
+left_from true b e = refl
+left_from false b e = e
+
+le_of : (a b : ℕ) → nat_le a b ≡ true → a ≤ b
+le_of a b e = grind (arith, nat_tests)
+
+-- two lists of the first n items, alike where they are left
+filter_like : (p : Placed → Bool) (f h : ℕ → List ℕ) (n : ℕ) → ((q : ℕ) (x y : List ℕ) → p (placed q x) ≡ p (placed q y)) → ((q : ℕ) → q < n → p (placed q (f q)) ≡ true → f q ≡ h q)
+    → filter p (map (λ (q : ℕ). placed q (f q)) (range_with_len 0 n)) ≡ filter p (map (λ (q : ℕ). placed q (h q)) (range_with_len 0 n))
+filter_like p f h zero same e = refl
+filter_like p f h (suc n) same e =
+    let r = filter_like p f h n same (λ q l t. e q (omega arith) t) in
+    let s : suc n ≡ n + 1 = omega arith in
+    let at : (b : Bool) → p (placed n (f n)) ≡ b → cond b (placed n (f n) ∷ []) [] ≡ cond b (placed n (h n) ∷ []) [] =
+    λ b. elim b as (λ b. p (placed n (f n)) ≡ b → cond b (placed n (f n) ∷ []) [] ≡ cond b (placed n (h n) ∷ []) []) [ true ↦ λ t. ap (λ (l : List ℕ). placed n l ∷ []) (e n (omega arith) t) | false ↦ λ t. refl ] in
+    ap (λ (k : ℕ). filter p (map (λ (q : ℕ). placed q (f q)) (range_with_len 0 k))) s ∙ filter_of_map_range_with_len_more p (λ (q : ℕ). placed q (f q)) 0 n n (omega arith)
+    ∙ ap (λ (l : List Placed). l ++ cond (p (placed n (f n))) (placed n (f n) ∷ []) []) r
+    ∙ ap (λ (l : List Placed). filter p (map (λ (q : ℕ). placed q (h q)) (range_with_len 0 n)) ++ l) (at (p (placed n (f n))) refl ∙ ap (λ (b : Bool). cond b (placed n (h n) ∷ []) []) (same n (f n) (h n)))
+    ∙ sym (filter_of_map_range_with_len_more p (λ (q : ℕ). placed q (h q)) 0 n n (omega arith)) ∙ ap (λ (k : ℕ). filter p (map (λ (q : ℕ). placed q (h q)) (range_with_len 0 k))) (sym s)
+
+-- within a list the default is of no matter
+swap_default : (xs : List Placed) (i : ℕ) (d e : Placed) → i < length xs → get_or xs i e ≡ get_or xs i d
+swap_default xs i d e h = sym (get_or_from_slice_get xs i _ d (slice_get-get_or xs i e h))
+
+refl_at : (xs : List Placed) (i : ℕ) (e : Placed) → i < length xs → get_or xs i (get_or xs i e) ≡ get_or xs i e
+refl_at xs i e h = swap_default xs i e (get_or xs i e) h
+
+item_is : (i : ℕ) (d e : Placed) (xs : List Placed) → i < length xs → (get_or xs i d).place ≡ i → placed i (get_or xs i d).words ≡ get_or xs i e
+item_is i d e xs h p = (let z : placed i (get_or xs i d).words ≡ get_or xs i d = λ k. record { place = sym p k; words = (get_or xs i d).words } in z) ∙ swap_default xs i e d h
+
+rows_of : (q w : ℕ) → 1 ≤ w → q < (q / w + 1) * w
+rows_of q w h = let d = div-add-mod' q w in let m = mod_below q w h in omega arith
+
+-- a place from the oldest block on that isn't reused, where the last of n places lies in block K
+low_is : (g : Grid) (n K : ℕ) → IsWithinLimits g → g.blocks ≤ K → n ≤ place g K g.size → ((K ≡ g.blocks) ⊎ (place g K 0 < n)) → (q : ℕ) → low g n ≤ q → q < n → K < g.blocks + q / g.size + g.blocks
+low_is g n K limits from most some q le less =
+    let is = low_at g n K limits from most some in
+    ⊎_elim
+    (λ l. let m : (q / g.size + 1) * g.size ≤ (K + 1 - g.blocks - g.blocks) * g.size = mul-le-mul_right g.size (omega arith) in
+    let d = rows_of q g.size limits.size_from in absurd (omega arith))
+    (λ l. omega arith)
+    (cases_lt (q / g.size) (K + 1 - g.blocks - g.blocks))
+
+module _ (g : Grid) (f : Front) (ws : List ℕ) (vs : List View) (limits : IsWithinLimits g) (s : IsSoundAt g f ws vs) (rest : AllRest vs) where
+  none_puts : NonePuts (stage_of stage) vs
+  none_puts j u at = ap (stage_in stage) (rest j u at)
+
+  -- an item from the oldest block on that isn't reused stands in the words
+  kept_words : (x : Placed) → StandsIn (λ (v : View). v.made) vs x → low g f.next ≤ x.place → x.place < f.next → entry_at g ws x.place ≡ x.words
+  kept_words x m from below =
+      let w = s.puts.places.words in
+      let k : ℕ = g.blocks + x.place / g.size in
+      let edge = allocated_to w in
+      let near = low_is g f.next f.last limits w.from (let z = place_next g f.last w.from in omega arith) (last_entered (stage_of stage) g f vs none_puts (put_cursors g ws) s.manned) x.place from below in
+      let to : k ≤ f.last = made_block (stage_of stage) g limits f ws vs s.puts.places m.seat m.view m.number x m.at m.there in
+      let opened = last_open (stage_of stage) g f vs none_puts (put_cursors g ws) s.manned in
+      let present : IsPresent (allocated_word g ws) k = ⊎_elim (λ l. let z = w.full k l near in omega (arith, z.0)) (λ l. let e : k ≡ f.last = omega arith in let z = ap (allocated_word g ws) e in omega arith) (cases_lt k f.last) in
+      made_at (stage_of stage) g ws m.view m.number x (s.puts.entries m.seat m.view m.at) m.there present
+
+  -- at rest nothing is being read
+  takes_all : (p : ℕ) → sum_by (fetches g p) vs ≡ times p (places (all_taken vs))
+  takes_all p = sum_alike (fetches g p) (λ (v : View). times p (places v.taken)) vs (λ j u at. ap (times p) (ap (λ (ph : Option DropPhase). places u.taken ++ reading g ph) (rest j u at) ∙ append-nil (places u.taken))) ∙ sym (times_all (λ (v : View). v.taken) p vs)
+
+  taken_stands : (x : Placed) → Contains (all_taken vs) x → Contains (all_made vs) x
+  taken_stands x c =
+      let k = stands_in (λ (v : View). v.taken) vs x c in
+      let m = (s.each k.seat k.view k.at).items k.number x k.there in
+      has_in (λ (v : View). v.made) vs m.seat m.number m.view x m.at m.there
+
+  pub settled_at : IsSettled g (record { words = ws; views = vs })
+  settled_at =
+      let a : ℕ = f.next in
+      let made = in_order a (all_made vs) (λ p. sym (claims_all (stage_of stage) g f vs none_puts p) ∙ s.puts.places.counts.once p) in
+      let n = order_length (all_made vs) a made in
+      let total : a ≡ made_total vs = sym s.puts.places.counts.number ∙ claims_number (stage_of stage) g f vs none_puts in
+      let d : Placed = placed 0 [] in
+      let words : ℕ → List ℕ = λ q. (get_or made.list q d).words in
+      let taken : List Placed = all_taken vs in
+      let list_is : map (λ (q : ℕ). placed q (words q)) (range_with_len 0 a) ≡ made.list =
+      same_lists (map (λ (q : ℕ). placed q (words q)) (range_with_len 0 a)) made.list (length-map-range_with_len _ 0 a ∙ sym n)
+      (λ i e h. let l : i < a = let z = length-map-range_with_len (λ (q : ℕ). placed q (words q)) 0 a in omega arith in
+      let x = stands_from (all_made vs) a made i d l in
+      let y = stands_from (all_made vs) a made i e l in
+      let xe : x.0 ≡ get_or made.list i d = sym x.3 in
+      get_or-map-range_with_len _ 0 a i i e l (omega arith) ∙ item_is i d e made.list (let z = n in omega arith) (ap (λ (z : Placed). z.place) x.3 ∙ x.2)) in
+      let like = filter_like (is_left g a taken) (entry_at g ws) words a (λ q x y. refl)
+      (λ q l t. let x = stands_from (all_made vs) a made q d l in
+      let from = le_of (low g a) q (left_from _ _ t) in
+      let k = kept_words x.0 (stands_in (λ (v : View). v.made) vs x.0 x.1) (let e = x.2 in omega arith) (let e = x.2 in omega arith) in
+      ap (entry_at g ws) (sym x.2) ∙ k ∙ ap (λ (z : Placed). z.words) (sym x.3)) in
+      let outcome : DropOutcome g made.list taken (left_in g ws taken (made_total vs)) = record {
+        taken_accepted = λ i e h. let c : Contains taken (get_or taken i e) = (i, h, refl_at taken i e h) in let m = stands_at (all_made vs) a made (get_or taken i e) d (taken_stands (get_or taken i e) c) in ((get_or taken i e).place, (let z = n in omega (arith, m.0)), swap_default made.list (get_or taken i e).place d (get_or taken i e) (let z = n in omega (arith, m.0)) ∙ m.1);
+        taken_once = distinct (places taken) (λ p. let e = takes_all p in let o = s.counts.once p in omega arith);
+        rest_left = ap (left_in g ws taken) (sym total) ∙ like ∙ ap (λ (l : List Placed). filter (is_left g a taken) l) list_is ∙ ap (λ (k : ℕ). filter (is_left g k taken) made.list) (sym n);
+      } in
+      let gap : places made.list ≡ numbers_below (length made.list) = made.no_gap ∙ ap numbers_below (sym n) in
+      record {
+        accepted = made.list;
+        is_accepted = record { all_made = made.same; no_gap = gap };
+        outcome = outcome;
+        newest = keeps_newest g made.list taken (left_in g ws taken (made_total vs)) limits outcome gap;
+      }
+
+pub settled : (g : Grid) (w : MachineState DropPhase) → IsWithinLimits g → IsSound g w.words w.views → AllRest w.views → IsSettled g w
+settled g w limits k rest = settled_at g k.front w.words w.views limits k.at rest

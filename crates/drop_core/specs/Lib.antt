@@ -1,0 +1,14 @@
+pub mod TakeSteps
+pub mod PutSteps
+pub mod Types
+pub mod Steps
+pub mod Stage
+pub mod Words
+pub mod Counts
+pub mod Sound
+pub mod Laws
+pub mod Moments
+pub mod Causes
+pub mod Gathered
+pub mod Rest
+pub mod Alone

@@ -1,0 +1,28 @@
+ghost use Rattle.std.specs.Prelude.{◌≡◌, ◌<◌, IfOk, length};
+ghost use Rattle.std.specs.List.{AllByRecursion};
+ghost use Rattle.machine.specs.Steps.{Suits, run, start_state};
+ghost use Rattle.cursor_word.specs.Cursor.{most_puts};
+ghost use Rattle.drop_core.specs.Steps.{table};
+
+use crate::phase::DropPhase;
+use cursor_word::Shape;
+use machine::Event;
+use std::alloc::{AllocError, Global};
+
+/// The words and the seats of a queue that drops its oldest entries.
+pub type DropState = machine::State<DropPhase>;
+
+/// What is known of a seat.
+pub type DropView = machine::View<DropPhase>;
+
+/// The state after a schedule: its events, done in order from the start.
+pub fn drop_run(alloc: Global, shape: Shape, events: &[Event]) -> Result<DropState, AllocError>
+    requires suits { AllByRecursion (Suits table shape) events.now }
+    requires few { length events.now < most_puts shape }
+    ensures state { IfOk result (λ state. state ≡ record {
+      shape = shape;
+      state = run table shape (start_state _ shape) events.now;
+    }) }
+{
+    machine::run::<DropPhase>(alloc, shape, events)
+}
