@@ -1,6 +1,6 @@
 -- A document that was begun and written to.
-use Rattle.std.proofs.Common.{◌≡◌, ℕ, List, [], ◌++◌, length, take, Option, Some, None, IfSome, sym, ap, ◌∙◌, inl, inr, subst}
-use Rattle.std.proofs.Math.Seq.{take-append_seam}
+use Rattle.std.proofs.Common.{◌≡◌, List, ℕ, [], Option, Some, None, IfSome, ap, ◌∙◌, inl, inr, subst}
+use Rattle.std.specs.Prelude.{Result, Err, OnErr}
 use Rattle.flow_io.specs.Flow.{Files, Beside, documents, gained}
 use Rattle.profile_cli.specs.Trace.{GainsDocument, KeepsDocuments}
 
@@ -9,8 +9,9 @@ stored None mid new begun kept name text begins grew same = tt
 stored (Some earlier) mid new begun kept name text begins grew same =
     ap (λ t. documents t kept) (grew ∙ ap (λ m. gained m text) begins.0) ∙ ap (λ b. documents (Some text) b) (same ∙ begins.1)
 
-pub is_prefix : (part left text : List ℕ) → part ++ left ≡ text → part ≡ take (length part) text
-is_prefix part left text e = subst (λ t. part ≡ take (length part) t) e (sym (take-append_seam part left))
+-- what holds on an error holds at this one
+pub at_error : {T E P : Type 0} (r : Result T E) (e : E) → r ≡ Err e → OnErr r P → P
+at_error {P = P} r e is on = subst (λ x. OnErr x P) is on
 
 pub keeps_same : (old new : Option Files) (name : List ℕ) → new ≡ old → KeepsDocuments old new name
 keeps_same None new name e = tt

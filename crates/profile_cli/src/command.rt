@@ -67,7 +67,7 @@ pub fn carry_out<
     ensures run { IfClosed result.closed (λ done. IfSome (F.files files.old) (λ held. RunTrace
         (R.Retry.done_accepted done) options.now.workers
         (plan_of (texts_of held (bytes_of options.now.files.now)) options.now.piece)
-        (texts_of held (bytes_of options.now.files.now)) (C.ticks clock.now))) }
+        (texts_of held (bytes_of options.now.files.now)) (λ _. C.ticks clock.now))) }
 
     // When each other status comes.
     ensures known { IsStatus result.status }

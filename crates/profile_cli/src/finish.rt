@@ -60,7 +60,8 @@ pub fn finish<X: Threads + Wait + Sync, O: Sink, T: TraceStore, C: Clock, G: Gat
     ensures outcome { IfClosed result.closed (λ done. RetryOutcome
         (R.Retry.done_accepted done) (R.Retry.done_taken done) (R.Retry.done_left done)) }
     ensures run { IfClosed result.closed (λ done. RunTrace (R.Retry.done_accepted done)
-        options.now.workers (plan_of texts.now options.now.piece) texts.now (C.ticks clock.now)) }
+        options.now.workers (plan_of texts.now options.now.piece) texts.now
+        (λ _. C.ticks clock.now)) }
 
     // When each other status comes.
     ensures known { (result.status ≡ 3) ⊎ ((result.status ≡ 8) ⊎ IsAfterRun result.status) }

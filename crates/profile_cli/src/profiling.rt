@@ -75,7 +75,7 @@ pub fn profile<
     ensures run { IfOk (usage (bytes_of words.now)) (λ asked. IfClosed result.closed (λ done.
         IfSome (F.files files.old) (λ held. RunTrace (R.Retry.done_accepted done) asked.workers
         (plan_of (texts_of held asked.files) asked.piece) (texts_of held asked.files)
-        (C.ticks clock.now)))) }
+        (λ _. C.ticks clock.now)))) }
 
     // When each other status comes.
     ensures known { IsStatus result.status }

@@ -53,7 +53,7 @@ pub fn run_retry<X: Threads + Wait + Sync, C: Clock, G: Gate, R: Rails>(
     ensures order { IfOk result (λ ran. places (R.Retry.done_accepted ran.done)
         ≡ numbers_below (length (R.Retry.done_accepted ran.done))) }
     ensures trace { IfOk result (λ ran. RunTrace (R.Retry.done_accepted ran.done)
-        options.now.workers plan.now texts.now (C.ticks clock.now)) }
+        options.now.workers plan.now texts.now (λ _. C.ticks clock.now)) }
     ensures outcome { IfOk result (λ ran. RetryOutcome (R.Retry.done_accepted ran.done)
         (R.Retry.done_taken ran.done) (R.Retry.done_left ran.done)) }
     ensures events { IfOk result (λ ran. Spell ran.events.items (R.Retry.done_accepted ran.done)) }
@@ -104,7 +104,7 @@ fn run_queue<X: Threads + Wait + Sync, Q: Rail, C: Clock, G: Gate>(
     ensures order { IfOk result (λ ran. places (Q.done_accepted ran.done)
         ≡ numbers_below (length (Q.done_accepted ran.done))) }
     ensures trace { IfOk result (λ ran. RunTrace (Q.done_accepted ran.done)
-        workers plan.now texts.now (C.ticks clock.now)) }
+        workers plan.now texts.now (λ _. C.ticks clock.now)) }
     ensures outcome { IfOk result (λ ran. RetryOutcome
         (Q.done_accepted ran.done) (Q.done_taken ran.done) (Q.done_left ran.done)) }
     ensures events { IfOk result (λ ran. Spell ran.events.items (Q.done_accepted ran.done)) }
