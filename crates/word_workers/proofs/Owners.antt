@@ -98,15 +98,8 @@ names_text texts i s is h e other k =
     let kinds : kind_number s.kind ≡ 1 = let one : kind_number e.kind ≡ 1 = ap kind_number k in let most = kind_most s.kind in omega arith in
     subst (λ (f : ℕ). f < texts) (sym (ap (λ (ws : List ℕ). get_or ws 3 0) same)) (h (kind_is_piece s.kind kinds))
 
-place_within : (texts : List (List ℕ)) (i : ℕ) → 0 < length (get_or texts i []) → i < length texts
-place_within [] i lt = absurd (omega arith)
-place_within (t ∷ ts) zero lt = omega arith
-place_within (t ∷ ts) (suc i) lt = let rest = place_within ts i lt in omega arith
-
 file_known : (plan : List Piece) (texts : List (List ℕ)) (n : ℕ) → AllLieIn texts plan → n < length plan → (piece_at plan n).file < length texts
-file_known plan texts n inside lt =
-    let lies = inside n (record { file = 0; start = 0; end = 0 }) lt in
-    place_within texts (piece_at plan n).file (let some = lies.some in let within = lies.within in omega arith)
+file_known plan texts n inside lt = let lies = inside n (record { file = 0; start = 0; end = 0 }) lt in lies.file
 
 module _ (plan : List Piece) (texts : List (List ℕ)) (worker : ℕ) (readings : List ℕ) where
   own_tids : (n : ℕ) (ps : List ℕ) (last : SpanEvent) → last.tid ≡ worker + 1 → AllByRecursion (λ (e : SpanEvent). e.tid ≡ worker + 1) (map (span_at plan texts worker readings) (enumerate_from n ps) ++ last ∷ [])

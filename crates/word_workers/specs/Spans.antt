@@ -11,7 +11,7 @@ use Rattle.word_text.specs.Pieces.{LiesIn, plan_bytes}
 
 -- each piece lies in its text
 abbrev pub AllLieIn : List (List ℕ) → List Piece → Type 0
-AllLieIn texts plan = All (λ (p : Piece). LiesIn (slice_index_or texts p.file []) p.file p) plan
+AllLieIn texts plan = All (LiesIn texts) plan
 
 -- the piece of this number
 abbrev pub piece_at : List Piece → ℕ → Piece

@@ -41,17 +41,17 @@ pub record HasSpans (plan : List Piece) (texts : List (List ℕ)) (ticks : Optio
   pub spelled : map (λ (i : Placed). i.words) (filter (is_of worker) entries) ≡ map spelling (spans_of plan texts worker drawn readings)
 
 -- the entries that the seats of a run made, where its workers counted these pieces
-pub record RunMakes (made : List Placed) (drawn : List (List ℕ)) (workers : ℕ) (plan : List Piece) (texts : List (List ℕ)) (ticks : Option Ticks) : Type 0 where
+pub record RunMakes (made : List Placed) (drawn : List (List ℕ)) (workers : ℕ) (plan : List Piece) (texts : List (List ℕ)) (ticks : ℕ → Option Ticks) : Type 0 where
   pub number : length drawn ≡ workers
   pub rising : All IsRising drawn
   pub each_once : IsPermutation (flat_map (λ ns. ns) drawn) (numbers_below (length plan))
   pub all_spans : All (λ (i : Placed). IsSpanOfSome workers i.words) made
   pub in_order : (w : ℕ) → w < workers → IsRising (places (filter (is_of w) made))
-  pub spans : (w : ℕ) → w < workers → HasSpans plan texts ticks w (slice_index_or drawn w []) made
+  pub spans : (w : ℕ) → w < workers → HasSpans plan texts (ticks w) w (slice_index_or drawn w []) made
 
 -- the accepted entries of a run of these workers, in order of place, over the pieces of this plan
-pub record RunTrace (accepted : List Placed) (workers : ℕ) (plan : List Piece) (texts : List (List ℕ)) (ticks : Option Ticks) : Type 0 where
+pub record RunTrace (accepted : List Placed) (workers : ℕ) (plan : List Piece) (texts : List (List ℕ)) (ticks : ℕ → Option Ticks) : Type 0 where
   pub all_spans : All (λ (i : Placed). IsSpanOfSome workers i.words) accepted
   pub rising : (w : ℕ) → w < workers → IsRising (pieces_by w accepted)
   pub each_once : IsPermutation (flat_map (λ w. pieces_by w accepted) (numbers_below workers)) (numbers_below (length plan))
-  pub spans : (w : ℕ) → w < workers → HasSpans plan texts ticks w (pieces_by w accepted) accepted
+  pub spans : (w : ℕ) → w < workers → HasSpans plan texts (ticks w) w (pieces_by w accepted) accepted

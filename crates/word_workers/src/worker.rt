@@ -160,7 +160,7 @@ fn piece_at<'a>(plan: &Plan, texts: &'a [Text], number: u64) -> (u64, &'a [u8])
 
 // The bytes of a piece that lies in its text.
 fn lying_bytes<'a>(texts: &'a [Text], piece: &Piece) -> &'a [u8]
-    requires { LiesIn (slice_index_or texts.now piece.now.file []) piece.now.file piece.now }
+    requires { LiesIn texts.now piece.now }
     ensures { result.now ≡ plan_bytes texts.now piece.now }
 {
     let Some(text) = texts.get(piece.file as usize) else {
