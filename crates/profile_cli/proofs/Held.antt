@@ -5,7 +5,8 @@ use Rattle.std.proofs.lemmas.List.{length-map, get_or_default, map-append, take_
 use Rattle.std.proofs.Math.ListN.{get_or-map}
 use Rattle.std.proofs.lemmas.List.Sums.{sum_by-append}
 use Rattle.flow_io.specs.Flow.{Files, file_named, HoldsNone, Rose}
-use Rattle.profile_cli.specs.Texts.{AreRead, IfHeld, IsMissing, IsRead, IsTooLarge, IsTooMuch, bytes_named, bytes_of, input_limit, name_at, sum_to, text_limit, texts_of}
+use Rattle.flow_io.specs.Reading.{IfHeld}
+use Rattle.profile_cli.specs.Texts.{AreRead, IsMissing, IsRead, IsTooLarge, IsTooMuch, bytes_named, bytes_of, input_limit, name_at, sum_to, text_limit, texts_of}
 
 -- the texts before text i are these, and none of them is refused
 pub record AreFirst (held : Files) (names : List (List ℕ)) (i : ℕ) (texts : List (List ℕ)) : Type 0 where

@@ -1,8 +1,6 @@
-pub mod Given
 pub mod Stored
 pub mod Accepted
 pub mod Held
 pub mod Planned
 pub mod UsageWords
-pub mod Said
 pub mod Complete

@@ -1,6 +1,5 @@
 -- What the command says where it ends with a status other than 0.
 use Rattle.std.specs.Prelude.{◌≡◌, ℕ, ◌⊎◌, ◌==◌, List, [], ◌∷◌, ◌++◌, Option, if◌then◌else◌, codes, ◌||◌, Result, Ok, Err}
-use Rattle.flow_io.specs.Flow.{Rose, gained, GainedPart}
 use Rattle.profile_cli.specs.declared.options.Refusal.{Refusal}
 use Rattle.profile_cli.specs.Texts.{name_at}
 use Rattle.profile_cli.specs.Usage.{Asked, refusal_word}
@@ -24,7 +23,3 @@ name_part status detail names = if status == 4 || status == 6 then name_at names
 abbrev pub message_of : Result Asked Refusal → ℕ → ℕ → List ℕ
 message_of (Ok asked) status detail = first_part status ++ (name_part status detail asked.files ++ 10 ∷ [])
 message_of (Err refusal) status detail = codes "bbq-profile: usage: " ++ (refusal_word refusal ++ 10 ∷ [])
-
--- a sink gained this text, or failed behind a shorter prefix of it
-abbrev pub Said : Option (List ℕ) → Option (List ℕ) → ℕ → ℕ → List ℕ → Type 0
-Said old new before now text = (new ≡ gained old text) ⊎ (Rose before now × GainedPart old new text)

@@ -1,8 +1,7 @@
 -- The texts of the input, by the files that a source tells.
 use Rattle.std.specs.Prelude.{◌≡◌, ℕ, ◌+◌, ◌<◌, ◌≤◌, ◌⊎◌, List, [], length, map, take, sum_by, slice_index_or, Option, Some, None, unwrap_or, IsSome, IfSome, IsSomeAnd, String, string_bytes}
 use Rattle.flow_io.specs.Flow.{Files, file_named, HoldsNone, Rose}
-use Rattle.profile_cli.specs.declared.reading.Reading.{Reading}
-use Rattle.profile_cli.specs.declared.reading.Reading.TheVariants as reading
+use Rattle.flow_io.specs.declared.reading.TheConstants.{MOST_INPUT, MOST_TEXT}
 use Rattle.profile_cli.specs.declared.texts.Stopped.{Stopped}
 use Rattle.profile_cli.specs.declared.texts.Stopped.TheVariants as stopped
 
@@ -12,11 +11,11 @@ bytes_of ws = map string_bytes ws
 
 -- a text of more bytes than this is too large
 abbrev pub text_limit : ℕ
-text_limit = 67108864
+text_limit = MOST_TEXT
 
 -- all texts together have no more bytes than this
 abbrev pub input_limit : ℕ
-input_limit = 268435456
+input_limit = MOST_INPUT
 
 -- the bytes of the file of this name; none where it isn't held
 abbrev pub bytes_named : Files → List ℕ → List ℕ
@@ -63,17 +62,6 @@ pub record IsTooMuch (held : Files) (names : List (List ℕ)) (n : ℕ) : Type 0
   pub there : IsSome (file_named held (name_at names n))
   pub small : length (bytes_named held (name_at names n)) ≤ text_limit
   pub large : input_limit < sum_to held names n
-
--- where the source tells its files, it holds this one, and this is so of its bytes
-abbrev pub IfHeld : Option Files → List ℕ → (List ℕ → Type 0) → Type 0
-IfHeld files name P = IfSome files (λ held. (bytes : List ℕ) × (file_named held name ≡ Some bytes) × P bytes)
-
--- what reading one text says of the bytes that were read
-abbrev pub ReadsText : Option Files → List ℕ → ℕ → ℕ → Reading → Type 0
-ReadsText files name before now (reading.Whole text) = (length text.items ≤ text_limit) × IfHeld files name (λ bytes. text.items ≡ bytes)
-ReadsText files name before now (reading.TooLarge text) = (length text.items ≡ text_limit + 1) × IfHeld files name (λ bytes. (text.items ≡ take (text_limit + 1) bytes) × (text_limit < length bytes))
-ReadsText files name before now reading.Unread = Rose before now ⊎ HoldsNone files name
-ReadsText files name before now reading.Memory = Unit {0}
 
 -- why not all texts of these names were read
 abbrev pub StopsBy : Option Files → List (List ℕ) → ℕ → ℕ → Stopped → Type 0

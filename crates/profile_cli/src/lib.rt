@@ -8,7 +8,6 @@ mod options;
 mod plans;
 mod profiling;
 mod rails;
-mod reading;
 mod run;
 mod solo_rails;
 mod texts;

@@ -1,8 +1,9 @@
 ghost use Rattle.std.specs.Prelude.{◌≡◌, ◌≢◌, ◌≤◌, ◌++◌, [], ◌∷◌};
-ghost use Rattle.profile_cli.specs.Messages.{Said, first_part, name_part};
+ghost use Rattle.flow_io.specs.Saying.{Said};
+ghost use Rattle.profile_cli.specs.Messages.{first_part, name_part};
 ghost use Rattle.profile_cli.specs.Texts.{bytes_of};
 
-use flow_io::{Sink, write_all};
+use flow_io::{Sink, say};
 
 /// Says what a status means, with the name of the text that it is about; nothing where all was done.
 pub fn say_status<M: Sink>(messages: &mut M, status: u8, detail: u64, names: &[String])
@@ -23,24 +24,6 @@ pub fn say_status<M: Sink>(messages: &mut M, status: u8, detail: u64, names: &[S
         first_part(status),
         name_part(status, detail, names),
     );
-}
-
-/// Writes a message in three parts, up to the first failure.
-pub fn say<M: Sink>(messages: &mut M, text: &[u8], name: &[u8])
-    requires { M.ready messages.old }
-    ensures later { M.faults messages.old ≤ M.faults messages.new }
-    ensures ready { M.ready messages.new }
-    ensures beside { M.beside messages.new ≡ M.beside messages.old }
-    ensures said { Said (M.told messages.old) (M.told messages.new)
-        (M.faults messages.old) (M.faults messages.new) (text.now ++ (name.now ++ 10 ∷ [])) }
-{
-    if !write_all(messages, text) {
-        return;
-    }
-    if !write_all(messages, name) {
-        return;
-    }
-    let _ = write_all(messages, b"\n");
 }
 
 // The message of a status, up to a name.

@@ -1,13 +1,9 @@
 ghost use Rattle.std.specs.Prelude.{◌≡◌, ◌≤◌, ◌<◌, length, sum_by, IfOk, IfErr, IfSome, vec_len};
 ghost use Rattle.profile_cli.specs.Texts.{AreRead, StopsBy, bytes_of, input_limit, texts_of};
 
-use crate::reading::{Reading, read_text};
-use flow_io::Source;
+use flow_io::{MOST_INPUT, MOST_TEXT, Reading, Source, read_text};
 use std::alloc::Global;
 use word_text::Text;
-
-/// The most bytes that all texts have together.
-const MOST_INPUT: usize = 268_435_456;
 
 /// Why the texts aren't all read, with the number of the text where it is one's. Where they have too many bytes together, those that were read.
 #[derive(Drop)]
@@ -39,7 +35,7 @@ pub fn read_all<F: Source>(
     let mut total = 0;
     for name in names {
         let number = texts.len() as u64;
-        let text = match read_text(alloc, files, name.as_str()) {
+        let text = match read_text(alloc, files, name.as_str(), MOST_TEXT) {
             Reading::Whole(text) => text,
             Reading::TooLarge(_) => return Err(Stopped::TooLarge(number)),
             Reading::Unread => return Err(Stopped::Unread(number)),

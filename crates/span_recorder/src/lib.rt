@@ -66,7 +66,7 @@ fn put_or_take<R: Rail>(
     requires takes { R.TakesFrom rail.now seat.old }
     requires width { (R.shape_of rail.now).width ≡ SPAN_WORDS }
     requires words { length words.now ≡ SPAN_WORDS }
-    requires room { length (R.made seat.old) < most_puts }
+    requires room { length (R.made seat.old) < most_puts (R.shape_of rail.now) }
     ensures puts { (q : R) → R.PutsInto q seat.old → R.PutsInto q seat.new }
     ensures takes { (q : R) → R.TakesFrom q seat.old → R.TakesFrom q seat.new }
     ensures number { R.number_of seat.new ≡ R.number_of seat.old }

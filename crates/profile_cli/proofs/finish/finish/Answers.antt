@@ -4,7 +4,8 @@ use Rattle.flow_io.specs.Flow.{gained, GainedPart}
 use Rattle.word_text.specs.declared.plan.Piece.{Piece}
 use Rattle.word_text.specs.Counts.{Numbers, counts_text_of}
 use Rattle.word_workers.specs.Spans.{AllLieIn, plan_words}
-use Rattle.word_workers.proofs.Plans.{plan_inside, plan_words-le}
+use Rattle.word_text.proofs.Cuts.{plan_inside}
+use Rattle.word_workers.proofs.Plans.{plan_words-le}
 use Rattle.profile_cli.proofs.Planned.{counts_of_plan}
 use Rattle.profile_cli.proofs.finish.finish.Goals as goal
 

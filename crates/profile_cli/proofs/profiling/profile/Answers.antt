@@ -3,7 +3,8 @@ use Rattle.std.specs.Prelude.{codes, IfOk, IfSome, Result}
 use Rattle.flow_io.specs.Flow.{Rose}
 use Rattle.word_text.specs.Pieces.{plan_of}
 use Rattle.profile_cli.specs.declared.options.Refusal.{Refusal}
-use Rattle.profile_cli.specs.Messages.{Said, message_of}
+use Rattle.flow_io.specs.Saying.{Said}
+use Rattle.profile_cli.specs.Messages.{message_of}
 use Rattle.profile_cli.specs.Texts.{AreRead, texts_of}
 use Rattle.profile_cli.specs.Usage.{Asked, asked_of}
 use Rattle.profile_cli.proofs.Complete.{IsComplete, complete}
