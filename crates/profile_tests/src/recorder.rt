@@ -53,6 +53,7 @@ fn noted<X: Wait, R: Rail>(
     ensures number { R.number_of seat.new ≡ R.number_of seat.old }
     ensures made { OnOk result (length (R.made seat.new) ≡ count) }
 {
+    let _most = rail.shape().most_puts();
     for piece in 0..count {
         note_span(rt, alloc, rail, seat, batch, &span_of(piece))?;
     }
