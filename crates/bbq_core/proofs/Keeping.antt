@@ -115,7 +115,7 @@ begins g ws vs id v start.Take limits s at e wide may =
     attended g s.opened s.passed s.allocated s.reserved _ _ (begins_take g s.opened s.passed s.allocated s.reserved ws vs id v s.sound at e) (begun_manned g s.opened s.passed ws vs id v (begun v None start.Take) at e s.manned)
 begins g ws vs id v start.Go limits s at e wide may = subst (IsAttended g ws) (sym (set_again vs id v at)) s
 
-can : (g : Grid) (ws : List ℕ) (vs : List View) (id : ℕ) (v : View) (p : Phase) → IsWithinLimits g → IsAttended g ws vs → made_total vs ≤ place_span g → slice_get vs id ≡ Some v → v.phase ≡ Some p → runs.CanStep table g ws v p
+pub can : (g : Grid) (ws : List ℕ) (vs : List View) (id : ℕ) (v : View) (p : Phase) → IsWithinLimits g → IsAttended g ws vs → made_total vs ≤ place_span g → slice_get vs id ≡ Some v → v.phase ≡ Some p → runs.CanStep table g ws v p
 can g ws vs id v p limits s room at e =
     let c = can_step g ws vs id v p limits (sound_of g ws vs s) room at e in
     record { range = c.range; found = c.found; wide = c.wide; read = (alike g p (steps.finds table g ws v p)).read v.read c.read }
@@ -131,3 +131,6 @@ keeps = record {
 
 pub made_alike : (g : Grid) (p : Phase) (old : ℕ) (made : List Placed) (entry : List ℕ) → steps.made_after made entry (after g p old) ≡ made_after g made entry p
 made_alike g p old made entry = (alike g p old).made made entry
+
+pub taken_alike : (g : Grid) (p : Phase) (old : ℕ) (taken : List Placed) (read : List ℕ) → steps.taken_after taken read (after g p old) ≡ taken_after g taken read p
+taken_alike g p old taken read = (alike g p old).taken taken read

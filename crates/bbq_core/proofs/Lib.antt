@@ -43,3 +43,6 @@ pub mod Keeping
 pub mod Reached
 pub mod Shown
 pub mod LoneLaw
+pub mod CallTable
+pub mod Promised
+pub mod SeatOrder
