@@ -21,6 +21,8 @@ fn span_of(piece: u64) -> SpanEvent
         file: 0,
         piece,
         words: 3,
+        depth: 1,
+        total: 3,
     }
 }
 
@@ -63,7 +65,7 @@ fn noted<X: Wait, R: Rail>(
 #[test]
 fn a_full_queue_is_helped_and_then_noted_in(rt: HostRuntime) -> Result<(), Fail> {
     let alloc = rt.alloc();
-    let (rail, mut seat) = SoloRetry::make(alloc, Shape::new(2, 2, 6, 1)?)?;
+    let (rail, mut seat) = SoloRetry::make(alloc, Shape::new(2, 2, 8, 1)?)?;
     let mut batch = Batch::new(alloc);
     noted(&rt, alloc, &rail, &mut seat, &mut batch, 4)?;
     assert_eq!(rt; batch.len(), 0);
