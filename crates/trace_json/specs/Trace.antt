@@ -1,4 +1,5 @@
--- A trace in the JSON object form of the Trace Event Format: what the workers are called, and complete events with counters, in an array with metadata beside it.
+-- A trace in the JSON object form of the Trace Event Format: what the workers are called, and
+-- complete events with counters, in an array with metadata beside it.
 use Rattle.std.specs.Prelude.{◌≡◌, ℕ, ◌+◌, ◌<◌, min, List, [], ◌∷◌, ◌++◌, Option, length, map, flat_map, fold, codes, decimal, slice_index_or}
 use Rattle.std.specs.BTreeSet.{insert_key}
 use Rattle.std.specs.List.{join_with_byte}
@@ -44,8 +45,10 @@ worker_args e =
 
 -- the event of a span, where the texts have these names
 abbrev pub event_of_kind : SpanKind → List (List ℕ) → SpanEvent → Data
-event_of_kind Piece names e = complete_event (codes "piece") (slice_index_or names e.file []) (object (piece_args e)) e
-event_of_kind Worker names e = complete_event (codes "worker") (codes "worker") (object (worker_args e)) e
+event_of_kind Piece names e =
+    complete_event (codes "piece") (slice_index_or names e.file []) (object (piece_args e)) e
+event_of_kind Worker names e =
+    complete_event (codes "worker") (codes "worker") (object (worker_args e)) e
 
 abbrev pub event_data : List (List ℕ) → SpanEvent → Data
 event_data names e = event_of_kind e.kind names e
@@ -53,7 +56,8 @@ event_data names e = event_of_kind e.kind names e
 -- the metadata event that names a worker
 abbrev pub thread_data : ℕ → Data
 thread_data tid =
-    object (member (codes "args") (object (member (codes "name") (string (codes "worker " ++ decimal tid)) no_members))
+    object (member (codes "args")
+      (object (member (codes "name") (string (codes "worker " ++ decimal tid)) no_members))
     (member (codes "name") (string (codes "thread_name"))
     (member (codes "ph") (string (codes "M"))
     (member (codes "pid") (whole 1)
@@ -101,13 +105,16 @@ text_of_span names e = join_with_byte 44 (map compact_text (span_entries names e
 
 -- the entries of a trace: the workers' names, and then those of each span
 abbrev pub trace_entries : List (List ℕ) → List SpanEvent → List Data
-trace_entries names events = map thread_data (tids_of events) ++ flat_map (span_entries names) events
+trace_entries names events =
+    map thread_data (tids_of events) ++ flat_map (span_entries names) events
 
 -- the whole document, with how many spans were accepted and how many are listed
 abbrev pub trace_data : List (List ℕ) → ℕ → List SpanEvent → Data
 trace_data names accepted events =
     object (member (codes "displayTimeUnit") (string (codes "ms"))
-    (member (codes "otherData") (object (member (codes "accepted") (whole accepted) (member (codes "kept") (whole (length events)) no_members)))
+    (member (codes "otherData") (object
+      (member (codes "accepted") (whole accepted)
+      (member (codes "kept") (whole (length events)) no_members)))
     (member (codes "traceEvents") (array (items_of (trace_entries names events))) no_members)))
 
 -- the trace text: that document on one line
@@ -120,8 +127,11 @@ HasFile files e = e.kind ≡ Piece → e.file < files
 
 -- what stands before the entries
 abbrev pub head_text : ℕ → ℕ → List ℕ
-head_text accepted kept = codes "{\"displayTimeUnit\":\"ms\",\"otherData\":{\"accepted\":" ++ decimal accepted ++ codes ",\"kept\":" ++ decimal kept ++ codes "},\"traceEvents\":["
+head_text accepted kept =
+    codes "{\"displayTimeUnit\":\"ms\",\"otherData\":{\"accepted\":" ++ decimal accepted
+    ++ codes ",\"kept\":" ++ decimal kept ++ codes "},\"traceEvents\":["
 
 -- what the text has lost at its front, the sink has gained
 abbrev pub HandsOver : Option (List ℕ) → Option (List ℕ) → List ℕ → List ℕ → Type 0
-HandsOver told new_told text new_text = (sent : List ℕ) × (new_told ≡ gained told sent) × (sent ++ new_text ≡ text)
+HandsOver told new_told text new_text =
+    (sent : List ℕ) × (new_told ≡ gained told sent) × (sent ++ new_text ≡ text)

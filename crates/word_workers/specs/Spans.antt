@@ -35,23 +35,35 @@ pub record AreReadings (ticks : Option Ticks) (readings : List ℕ) (count : ℕ
   pub most : All (λ r. r ≤ last_reading) readings
   pub told : IfSome ticks (λ t. (j : ℕ) → j < count → slice_index readings j ≡ reading_at t j)
 
--- the span of a piece that this worker counted between two readings, with the total of its words up to that piece
+-- the span of a piece that this worker counted between two readings, with the total of its words
+-- up to that piece
 abbrev pub piece_span : List Piece → List (List ℕ) → ℕ → ℕ → ℕ → ℕ → ℕ → SpanEvent
 piece_span plan texts worker n total before after =
-    record { kind = PieceKind; tid = worker + 1; ts = before; dur = duration before after; file = (piece_at plan n).file; piece = n; words = length (words_at plan texts n); depth = 1; total = total }
+    record {
+      kind = PieceKind; tid = worker + 1; ts = before; dur = duration before after;
+      file = (piece_at plan n).file; piece = n; words = length (words_at plan texts n);
+      depth = 1; total = total;
+    }
 
 -- the span of a worker that counted these pieces between two readings
 abbrev pub worker_span : List Piece → List (List ℕ) → ℕ → List ℕ → ℕ → ℕ → SpanEvent
 worker_span plan texts worker drawn before after =
     let words = word_total plan texts drawn in
-    record { kind = Worker; tid = worker + 1; ts = before; dur = duration before after; file = 0; piece = length drawn; words = words; depth = 0; total = words }
+    record {
+      kind = Worker; tid = worker + 1; ts = before; dur = duration before after;
+      file = 0; piece = length drawn; words = words; depth = 0; total = words;
+    }
 
 -- the span of the i-th piece that a worker counted, by its readings
 abbrev pub span_at : List Piece → List (List ℕ) → ℕ → List ℕ → List ℕ → ℕ × ℕ → SpanEvent
-span_at plan texts worker drawn readings e = piece_span plan texts worker e.1 (word_total plan texts (take (e.0 + 1) drawn)) (slice_index readings (2 * e.0 + 1)) (slice_index readings (2 * e.0 + 2))
+span_at plan texts worker drawn readings e =
+    piece_span plan texts worker e.1 (word_total plan texts (take (e.0 + 1) drawn))
+    (slice_index readings (2 * e.0 + 1)) (slice_index readings (2 * e.0 + 2))
 
--- the spans of a worker that counted these pieces, by its readings: one of each piece, and its own between the first reading and the last
+-- the spans of a worker that counted these pieces, by its readings: one of each piece, and its own
+-- between the first reading and the last
 abbrev pub spans_of : List Piece → List (List ℕ) → ℕ → List ℕ → List ℕ → List SpanEvent
 spans_of plan texts worker drawn readings =
     map (span_at plan texts worker drawn readings) (enumerate_from 0 drawn)
-    ++ worker_span plan texts worker drawn (slice_index readings 0) (slice_index readings (2 * length drawn + 1)) ∷ []
+    ++ worker_span plan texts worker drawn
+    (slice_index readings 0) (slice_index readings (2 * length drawn + 1)) ∷ []

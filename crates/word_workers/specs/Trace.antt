@@ -38,30 +38,38 @@ is_piece_kind PieceKind = true
 
 -- the numbers of the pieces of these spans
 abbrev pub pieces_in : List SpanEvent → List ℕ
-pieces_in events = map (λ (e : SpanEvent). e.piece) (filter (λ (e : SpanEvent). is_piece_kind e.kind) events)
+pieces_in events =
+    map (λ (e : SpanEvent). e.piece) (filter (λ (e : SpanEvent). is_piece_kind e.kind) events)
 
 -- the numbers of the pieces that this worker counted, in the order of the entries
 abbrev pub pieces_by : ℕ → List Placed → List ℕ
 pieces_by worker entries = pieces_in (spans_by worker entries)
 
 -- the spans of this worker are those of a worker that counted these pieces, in its order
-pub record HasSpans (plan : List Piece) (texts : List (List ℕ)) (ticks : Option Ticks) (worker : ℕ) (drawn : List ℕ) (entries : List Placed) : Type 0 where
+pub record HasSpans (plan : List Piece) (texts : List (List ℕ)) (ticks : Option Ticks)
+    (worker : ℕ) (drawn : List ℕ) (entries : List Placed) : Type 0 where
   pub readings : List ℕ
   pub are_readings : AreReadings ticks readings (2 * length drawn + 2)
   pub spans : spans_by worker entries ≡ spans_of plan texts worker drawn readings
 
--- the entries that the seats of a run made, where its workers counted these pieces, each by its hand of the clock
-pub record RunMakes (made : List Placed) (drawn : List (List ℕ)) (workers : ℕ) (plan : List Piece) (texts : List (List ℕ)) (clock : ℕ → Option Ticks) : Type 0 where
+-- the entries that the seats of a run made, where its workers counted these pieces, each by its hand
+-- of the clock
+pub record RunMakes (made : List Placed) (drawn : List (List ℕ)) (workers : ℕ)
+    (plan : List Piece) (texts : List (List ℕ)) (clock : ℕ → Option Ticks) : Type 0 where
   pub number : length drawn ≡ workers
   pub rising : All IsRising drawn
   pub each_once : IsPermutation (flat_map (λ ns. ns) drawn) (numbers_below (length plan))
   pub all_spans : All (λ (i : Placed). IsSpanOfSome workers i.words) made
   pub in_order : (w : ℕ) → w < workers → IsRising (places (filter (is_of w) made))
-  pub spans : (w : ℕ) → w < workers → HasSpans plan texts (clock w) w (slice_index_or drawn w []) made
+  pub spans : (w : ℕ) → w < workers
+      → HasSpans plan texts (clock w) w (slice_index_or drawn w []) made
 
 -- the accepted entries of a run of these workers, in order of place, over the pieces of this plan
-pub record RunTrace (accepted : List Placed) (workers : ℕ) (plan : List Piece) (texts : List (List ℕ)) (clock : ℕ → Option Ticks) : Type 0 where
+pub record RunTrace (accepted : List Placed) (workers : ℕ)
+    (plan : List Piece) (texts : List (List ℕ)) (clock : ℕ → Option Ticks) : Type 0 where
   pub all_spans : All (λ (i : Placed). IsSpanOfSome workers i.words) accepted
   pub rising : (w : ℕ) → w < workers → IsRising (pieces_by w accepted)
-  pub each_once : IsPermutation (flat_map (λ w. pieces_by w accepted) (numbers_below workers)) (numbers_below (length plan))
-  pub spans : (w : ℕ) → w < workers → HasSpans plan texts (clock w) w (pieces_by w accepted) accepted
+  pub each_once : IsPermutation
+      (flat_map (λ w. pieces_by w accepted) (numbers_below workers)) (numbers_below (length plan))
+  pub spans : (w : ℕ) → w < workers
+      → HasSpans plan texts (clock w) w (pieces_by w accepted) accepted
