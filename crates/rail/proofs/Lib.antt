@@ -2,4 +2,3 @@ pub mod Rising
 pub mod Dense
 pub mod Live
 pub mod Whole
-pub mod ListSeats

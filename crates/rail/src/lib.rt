@@ -4,13 +4,11 @@
 mod answer;
 mod batch;
 mod entry;
-mod list_rail;
-mod passage;
+mod law;
 mod rail;
 
 pub use answer::{Answer, Put, Take, Why};
 pub use batch::Batch;
 pub use entry::{Entry, Placed};
-pub use list_rail::{ListDone, ListRail, ListSeat};
-pub use passage::{Passed, pass_all, put_all, put_kept, take_all, take_kept};
+pub use law::close_without_loss;
 pub use rail::{Rail, Refused};
