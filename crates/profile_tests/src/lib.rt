@@ -8,6 +8,8 @@ mod options;
 #[cfg(test)]
 mod outside;
 #[cfg(test)]
+mod reading;
+#[cfg(test)]
 mod recorder;
 #[cfg(test)]
 mod spellings;

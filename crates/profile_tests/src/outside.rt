@@ -51,6 +51,26 @@ fn a_store_in_memory_keeps_its_documents(rt: HostRuntime) -> Result<(), Fail> {
 }
 
 #[test]
+fn a_refused_begin_keeps_room_and_documents(rt: HostRuntime) -> Result<(), Fail> {
+    let alloc = rt.alloc();
+    let mut store = MemStore::new(alloc, 2, 5, 9, Vec::from_slice(alloc, &[1])?)?;
+    // The second call fails, and the third name doesn't fit.
+    for (name, begun, documents) in [
+        ("a", true, 1),
+        ("b", false, 1),
+        ("longer", false, 1),
+        ("c", true, 2),
+        ("d", false, 2),
+    ] {
+        assert_eq!(rt; store.begin(name), begun);
+        assert_eq!(rt; store.documents(), documents);
+    }
+    assert_eq!(rt; store.name(1), Some("c"));
+    assert_eq!(rt; store.write(b"four"), Took::Took(3));
+    Ok(())
+}
+
+#[test]
 fn the_system_keeps_what_was_written_and_counts_time(rt: HostRuntime) -> Result<(), Fail> {
     let clock = RealClock::new(&rt);
     let mut hand = clock.hand(0);

@@ -11,13 +11,18 @@ mod cursors;
 mod gathering;
 #[cfg(test)]
 mod list_queue;
+mod list_rail;
 #[cfg(test)]
 mod logged_steps;
 #[cfg(test)]
 mod many_threads;
 #[cfg(test)]
 mod one_seat;
+mod passage;
 #[cfg(test)]
 mod schedules;
 #[cfg(test)]
 mod sharing;
+
+pub use list_rail::{ListDone, ListRail, ListSeat};
+pub use passage::{Passed, pass_all, put_all, put_kept, take_all, take_kept};

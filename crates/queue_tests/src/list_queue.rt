@@ -1,6 +1,7 @@
 //! Batches, and the queue that is a plain list.
+use crate::{ListRail, pass_all};
 use cursor_word::Shape;
-use rail::{Batch, Entry, ListRail, Placed, Rail, pass_all};
+use rail::{Batch, Entry, Placed, Rail};
 use std::test::Fail;
 
 #[test]

@@ -1,9 +1,10 @@
 //! The queue for one seat, beside a plain list.
 ghost use Rattle.std.specs.Prelude.{◌≡◌};
 
+use crate::ListRail;
 use crate::calls::{call_of, ended};
 use cursor_word::{Cursor, Shape};
-use rail::{Answer, ListRail, Put, Rail, Take};
+use rail::{Answer, Put, Rail, Take};
 use solo_rail::SoloRetry;
 use std::alloc::Global;
 use std::process::Abort;

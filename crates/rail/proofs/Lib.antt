@@ -3,4 +3,3 @@ pub mod Dense
 pub mod Newest
 pub mod Live
 pub mod Whole
-pub mod ListSeats

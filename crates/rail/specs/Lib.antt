@@ -6,4 +6,3 @@ pub mod Told
 pub mod Outcome
 pub mod Rail
 pub mod Sequential
-pub mod ListRail

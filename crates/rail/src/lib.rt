@@ -4,15 +4,13 @@
 mod answer;
 mod batch;
 mod entry;
-mod list_rail;
+mod law;
 mod outcome;
-mod passage;
 mod rail;
 
 pub use answer::{Answer, Put, Take, Why};
 pub use batch::Batch;
 pub use entry::{Entry, Placed};
-pub use list_rail::{ListDone, ListRail, ListSeat};
+pub use law::close_without_loss;
 pub use outcome::law_drop_outcome;
-pub use passage::{Passed, pass_all, put_all, put_kept, take_all, take_kept};
 pub use rail::{Rail, Refused};

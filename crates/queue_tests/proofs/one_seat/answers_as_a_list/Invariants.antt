@@ -1,5 +1,5 @@
 use Rattle.std.proofs.Common.{◌≤◌, length}
-use Rattle.rail.specs.ListRail.{IsSeatOf}
+use Rattle.queue_tests.specs.ListRail.{IsSeatOf}
 use Rattle.call_steps.specs.Queue.{IsSeatOf as IsSoloSeatOf}
 use Rattle.queue_tests.proofs.one_seat.answers_as_a_list.Given as goal
 

@@ -1,6 +1,6 @@
 use Rattle.std.proofs.Common.{◌≡◌, ◌<◌}
 use Rattle.rail.specs.Told.{IsTake}
-use Rattle.rail.proofs.passage.take_all.Given as goal
+use Rattle.queue_tests.proofs.passage.take_all.Given as goal
 
 abbrev pub invariant-loop : goal.invariant-loop
 invariant-loop g l =

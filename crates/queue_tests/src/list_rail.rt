@@ -1,28 +1,27 @@
-ghost use Rattle.std.specs.Prelude.{◌≡◌, ◌+◌, ◌-◌, ◌/◌, ◌%◌, ◌≤◌, ◌<◌, ◌↔◌, ◌∷◌, [], Some, IfErr, IfOk, IsPermutation, true, false, drop, flat_map, length, map, take};
+ghost use Rattle.std.specs.Prelude.{◌≡◌, ◌+◌, ◌-◌, ◌/◌, ◌%◌, ◌≤◌, ◌<◌, ◌↔◌, ◌∷◌, [], Some, None, IfErr, IfOk, IsPermutation, true, false, drop, flat_map, length, map, take};
 ghost use Rattle.std.specs.List.{All};
 ghost use Rattle.cursor_word.specs.Shape.{Grid};
 ghost use Rattle.cursor_word.specs.Cursor.{first_of, place_span};
 ghost use Rattle.rail.specs.Items.{IsRising, places};
-ghost use Rattle.rail.specs.ListRail.{IsSeatOf, taken_of};
+ghost use Rattle.queue_tests.specs.ListRail.{IsSeatOf, taken_of};
 ghost use Rattle.rail.specs.Outcome.{DropOutcome, IsAccepted, RetryOutcome, numbers_below};
 ghost use Rattle.rail.specs.Rail.{Puts, Takes};
 ghost use Rattle.rail.specs.Sequential.{IsFull, RetryPut, retry_take};
-ghost use Rattle.rail.specs.declared.list_rail.ListSeat.{ListSeat};
+ghost use Rattle.queue_tests.specs.declared.list_rail.ListSeat.{ListSeat};
 
-use crate::answer::{Answer, Put, Take};
-use crate::batch::Batch;
-use crate::entry::{Entry, Placed};
-use crate::rail::{Rail, Refused};
 use cursor_word::{Cursor, Shape};
+use rail::{Answer, Batch, Entry, Placed, Put, Rail, Refused, Take};
 use std::alloc::{AllocError, Global};
 
-/// A queue for one seat that drops nothing and keeps all that it ever accepted in one list: the plain program that other queues are compared with.
+/// A queue for one seat that drops nothing and keeps all that it ever accepted in one list: the
+/// plain program that other queues are compared with.
 #[derive(Drop)]
 pub struct ListRail {
     pub shape: Shape,
 }
 
-/// What the one seat had accepted, how much of it is taken, and how much it has room for in its life.
+/// What the one seat had accepted, how much of it is taken, and how much it has room for in its
+/// life.
 #[derive(Drop)]
 pub struct ListSeat {
     pub shape: Shape,
@@ -54,6 +53,7 @@ impl ListRail {
         ensures seat { IfOk result (λ r. IsSeatOf shape r.1) }
         ensures fresh { IfOk result (λ r. (r.1.made.items ≡ []) × (r.1.taken ≡ 0)) }
         ensures most { IfOk result (λ r. r.1.most ≡ most) }
+        ensures told { IfOk result (λ r. r.1.last ≡ None) }
     {
         let made = Batch::with_room(alloc, most)?;
         let seat = ListSeat {
@@ -68,14 +68,16 @@ impl ListRail {
 }
 
 impl ListSeat {
-    /// Puts an entry, and answers as a queue that one thread alone uses, while there is room for it.
+    /// Puts an entry, and answers as a queue that one thread alone uses, while it has room.
     fn put_next(&mut self, shape: &Shape, entry: &[u64]) -> Put
         requires seat { IsSeatOf shape.now self.old }
         requires width { length entry.now ≡ shape.now.width }
         ensures seat { (g : Grid) → IsSeatOf g self.old → IsSeatOf g self.new }
         ensures taken { taken_of self.new ≡ taken_of self.old }
-        ensures answer { Puts shape.now false entry.now self.old.made.items self.new.made.items [] result }
-        ensures alone { length self.old.made.items < self.old.most → RetryPut shape.now (length self.old.made.items) self.old.taken result }
+        ensures answer { Puts shape.now false entry.now
+            self.old.made.items self.new.made.items [] result }
+        ensures alone { length self.old.made.items < self.old.most
+            → RetryPut shape.now (length self.old.made.items) self.old.taken result }
     {
         let _width = shape.width();
         let count = self.made.len();
@@ -102,7 +104,8 @@ impl ListSeat {
         requires width { length out.old ≡ shape.now.width }
         ensures seat { (g : Grid) → IsSeatOf g self.old → IsSeatOf g self.new }
         ensures made { self.new.made.items ≡ self.old.made.items }
-        ensures answer { Takes shape.now false self.new.made.items out.old out.new (taken_of self.old) (taken_of self.new) [] result }
+        ensures answer { Takes shape.now false self.new.made.items out.old out.new
+            (taken_of self.old) (taken_of self.new) [] result }
         ensures alone { result ≡ retry_take (length self.old.made.items) self.old.taken }
     {
         match self.made.get(self.taken) {
@@ -119,7 +122,7 @@ impl ListSeat {
     }
 }
 
-// Whether the newest block is filled, and the block that the next one would reuse is not wholly taken.
+// Whether the newest block is filled, and the one that the next would reuse is not wholly taken.
 fn is_full(shape: &Shape, accepted: u64, taken: u64) -> bool
     ensures { (result ≡ true) ↔ IsFull shape.now accepted taken }
 {
@@ -134,7 +137,8 @@ fn is_full(shape: &Shape, accepted: u64, taken: u64) -> bool
 // The last block in which so many entries lie.
 fn last_block(shape: &Shape, accepted: u64) -> u64
     requires { accepted ≤ place_span shape.now }
-    ensures filled { accepted % shape.now.size ≡ 0 → result ≡ shape.now.blocks + accepted / shape.now.size - 1 }
+    ensures filled { accepted % shape.now.size ≡ 0
+        → result ≡ shape.now.blocks + accepted / shape.now.size - 1 }
     ensures all { accepted ≤ first_of shape.now (result + 1) }
     ensures from { shape.now.blocks ≤ result + 1 }
 {
@@ -144,7 +148,7 @@ fn last_block(shape: &Shape, accepted: u64) -> u64
 
 impl Rail for ListRail {
     ghost use Rattle.std.specs.Prelude.{◌≡◌, [], false, take};
-    ghost use Rattle.rail.specs.ListRail.{IsSeatOf, taken_of};
+    ghost use Rattle.queue_tests.specs.ListRail.{IsSeatOf, taken_of};
 
     type Seat = ListSeat;
 
@@ -203,14 +207,21 @@ impl Rail for ListRail {
         seats: Vec<Self::Seat>,
     ) -> Result<Self::Done, Refused<Self, Self::Seat>>
         requires seats { All (IsSeatOf self.shape) seats.items }
-        requires all { IsPermutation (map (λ (_ : ListSeat). 0) seats.items) (numbers_below self.shape.seats) }
+        requires all { IsPermutation (map (λ (_ : ListSeat). 0) seats.items)
+            (numbers_below self.shape.seats) }
         ensures shape { IfOk result (λ done. done.shape ≡ self.shape) }
-        ensures accepted { IfOk result (λ done. IsAccepted (flat_map (λ (s : ListSeat). s.made.items) seats.items) done.accepted.items) }
-        ensures taken { IfOk result (λ done. IsPermutation (flat_map taken_of seats.items) (take done.taken done.accepted.items)) }
-        ensures order { IfOk result (λ done. IsRising (places (take done.taken done.accepted.items))) }
-        ensures retry { false ≡ false → IfOk result (λ done. RetryOutcome done.accepted.items (take done.taken done.accepted.items) done.left.items) }
-        ensures drop { false ≡ true → IfOk result (λ done. DropOutcome done.shape done.accepted.items (take done.taken done.accepted.items) done.left.items) }
-        ensures refused { IfErr result (λ refused. (refused.rail ≡ self) × (refused.seats.items ≡ seats.items)) }
+        ensures accepted { IfOk result (λ done. IsAccepted
+            (flat_map (λ (s : ListSeat). s.made.items) seats.items) done.accepted.items) }
+        ensures taken { IfOk result (λ done. IsPermutation
+            (flat_map taken_of seats.items) (take done.taken done.accepted.items)) }
+        ensures order { IfOk result (λ done.
+            IsRising (places (take done.taken done.accepted.items))) }
+        ensures retry { false ≡ false → IfOk result (λ done. RetryOutcome
+            done.accepted.items (take done.taken done.accepted.items) done.left.items) }
+        ensures drop { false ≡ true → IfOk result (λ done. DropOutcome done.shape
+            done.accepted.items (take done.taken done.accepted.items) done.left.items) }
+        ensures refused { IfErr result (λ refused.
+            (refused.rail ≡ self) × (refused.seats.items ≡ seats.items)) }
     {
         let _blocks = self.shape.blocks();
         match left_of(alloc, &seats) {
@@ -251,7 +262,8 @@ impl Rail for ListRail {
 fn left_of(alloc: Global, seats: &[ListSeat]) -> Result<Batch, AllocError>
     requires one { length seats.now ≡ 1 }
     requires taken { All (λ (s : ListSeat). s.taken ≤ length s.made.items) seats.now }
-    ensures { IfOk result (λ left. (s : ListSeat) → seats.now ≡ s ∷ [] → left.items ≡ drop s.taken s.made.items) }
+    ensures { IfOk result (λ left. (s : ListSeat) → seats.now ≡ s ∷ []
+        → left.items ≡ drop s.taken s.made.items) }
 {
     let seat = &seats[0];
     let mut left = Batch::with_room(alloc, seat.made.len() - seat.taken)?;

@@ -1,7 +1,7 @@
 use Rattle.std.proofs.Common.{◌≡◌, ℕ, ◌+◌, ◌-◌, ◌/◌, ◌%◌, sym, ap, ◌∙◌, arith}
 use Rattle.std.proofs.lemmas.Bool.{lt-ltb, ltb-true}
-use Rattle.rail.proofs.ListSeats.{full_needs, full_tells}
-use Rattle.rail.proofs.list_rail.is_full.Goals as goal
+use Rattle.queue_tests.proofs.ListSeats.{full_needs, full_tells}
+use Rattle.queue_tests.proofs.list_rail.is_full.Goals as goal
 
 pub returns : goal.returns
 returns c =

@@ -1,8 +1,8 @@
 use Rattle.std.proofs.Common.{◌≡◌, ◌<◌, ℕ, List, [], ◌∷◌, ◌++◌, length, refl, sym, ap, ◌∙◌, arith}
 use Rattle.cursor_word.specs.Shape.{Grid}
 use Rattle.rail.specs.Items.{placed}
-use Rattle.rail.proofs.ListSeats.{all_below, gains_next, least_before, seat_pushed}
-use Rattle.rail.proofs.list_rail.ListSeat.put_next.Goals as goal
+use Rattle.queue_tests.proofs.ListSeats.{all_below, gains_next, least_before, seat_pushed}
+use Rattle.queue_tests.proofs.list_rail.ListSeat.put_next.Goals as goal
 
 pub returns-then-count-self-clause-answer : goal.returns-then-count-self-clause-answer
 returns-then-count-self-clause-answer c =

@@ -3,10 +3,7 @@ ghost use Rattle.std.specs.List.{All};
 ghost use Rattle.cursor_word.specs.Cursor.{most_puts};
 ghost use Rattle.rail.specs.Told.{IsPut, IsTake};
 
-use crate::answer::{Put, Take};
-use crate::batch::Batch;
-use crate::entry::{Entry, Placed};
-use crate::rail::Rail;
+use rail::{Batch, Entry, Placed, Put, Rail, Take, close_without_loss};
 use std::alloc::{AllocError, Global};
 
 /// What went through a queue: what was put, what was taken, and the closed queue.
@@ -122,7 +119,8 @@ pub fn take_all<Q: Rail>(
     Ok(())
 }
 
-/// Puts each entry once through the one seat of a queue that drops nothing, takes as often, and closes the queue.
+/// Puts each entry once through the one seat of a queue that drops nothing, takes as often, and
+/// closes the queue.
 pub fn pass_all<Q: Rail>(
     alloc: Global,
     rail: Q,
@@ -136,7 +134,8 @@ pub fn pass_all<Q: Rail>(
     requires one { ((Q.shape_of rail).seats ≡ 1) × (Q.number_of seat ≡ 0) }
     requires width { All (λ entry. length entry ≡ (Q.shape_of rail).width) entries.now }
     requires room { length entries.now ≤ most_puts (Q.shape_of rail) }
-    ensures { IfOk result (λ passed. IsPermutation (passed.taken.items ++ Q.done_left passed.done) passed.put.items) }
+    ensures { IfOk result (λ passed. IsPermutation
+        (passed.taken.items ++ Q.done_left passed.done) passed.put.items) }
 {
     let mut seat = seat;
     let mut put = Batch::new(alloc);
@@ -145,7 +144,7 @@ pub fn pass_all<Q: Rail>(
     take_all(&rail, &mut seat, entries.len(), &mut taken)?;
     let mut seats = Vec::new(alloc);
     seats.push(seat)?;
-    match rail.close(alloc, seats) {
+    match close_without_loss(rail, alloc, seats) {
         Ok(done) => Ok(Passed { put, taken, done }),
         Err(_) => Err(AllocError),
     }

@@ -12,9 +12,9 @@ use Rattle.std.proofs.lemmas.Option.{get_or_from_slice_get, slice_get_within}
 use Rattle.cursor_word.specs.Shape.{Grid}
 use Rattle.cursor_word.specs.Cursor.{IsBefore, cursor}
 use Rattle.rail.specs.declared.entry.Placed.{Placed}
-use Rattle.rail.specs.declared.list_rail.ListSeat.{ListSeat}
+use Rattle.queue_tests.specs.declared.list_rail.ListSeat.{ListSeat}
 use Rattle.rail.specs.Items.{IsRising, placed, places}
-use Rattle.rail.specs.ListRail.{IsSeatOf, taken_of}
+use Rattle.queue_tests.specs.ListRail.{IsSeatOf, taken_of}
 use Rattle.rail.specs.Outcome.{IsAccepted, RetryOutcome, numbers_below}
 use Rattle.rail.specs.Rail.{Gains}
 use Rattle.rail.specs.declared.answer.Take.TheVariants as answer

@@ -4,7 +4,7 @@ use Rattle.std.specs.List.{All}
 use Rattle.cursor_word.specs.Shape.{Grid}
 use Rattle.cursor_word.specs.Cursor.{place_span}
 use Rattle.rail.specs.declared.entry.Placed.{Placed}
-use Rattle.rail.specs.declared.list_rail.ListSeat.{ListSeat}
+use Rattle.queue_tests.specs.declared.list_rail.ListSeat.{ListSeat}
 use Rattle.rail.specs.Items.{places}
 use Rattle.rail.specs.Outcome.{numbers_below}
 

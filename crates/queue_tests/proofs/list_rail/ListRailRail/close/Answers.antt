@@ -1,8 +1,8 @@
 use Rattle.std.proofs.Common.{List, length, ap, ◌∙◌}
-use Rattle.rail.specs.declared.list_rail.ListSeat.{ListSeat}
-use Rattle.rail.specs.ListRail.{IsSeatOf}
-use Rattle.rail.proofs.ListSeats.{all_is_one, of_only, rising_taken}
-use Rattle.rail.proofs.list_rail.ListRailRail.close.Goals as goal
+use Rattle.queue_tests.specs.declared.list_rail.ListSeat.{ListSeat}
+use Rattle.queue_tests.specs.ListRail.{IsSeatOf}
+use Rattle.queue_tests.proofs.ListSeats.{all_is_one, of_only, rising_taken}
+use Rattle.queue_tests.proofs.list_rail.ListRailRail.close.Goals as goal
 
 pub left_of-requires-clause-one : goal.left_of-requires-clause-one
 left_of-requires-clause-one c =

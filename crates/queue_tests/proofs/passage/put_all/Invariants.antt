@@ -1,6 +1,6 @@
 use Rattle.std.proofs.Common.{◌≡◌, ◌+◌, ◌<◌, ◌≤◌, length}
 use Rattle.rail.specs.Told.{IsPut}
-use Rattle.rail.proofs.passage.put_all.Given as goal
+use Rattle.queue_tests.proofs.passage.put_all.Given as goal
 
 abbrev pub invariant-loop-entry : goal.invariant-loop-entry
 invariant-loop-entry g l =

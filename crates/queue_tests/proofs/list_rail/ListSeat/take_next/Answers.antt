@@ -5,8 +5,8 @@ use Rattle.rail.specs.Items.{placed}
 use Rattle.rail.specs.declared.answer.Take.TheVariants as answer
 use Rattle.rail.specs.Rail.{Gains}
 use Rattle.rail.proofs.Dense.{dense_place}
-use Rattle.rail.proofs.ListSeats.{gains_taken, not_made, only_words, taken_below, taken_next}
-use Rattle.rail.proofs.list_rail.ListSeat.take_next.Goals as goal
+use Rattle.queue_tests.proofs.ListSeats.{gains_taken, not_made, only_words, taken_below, taken_next}
+use Rattle.queue_tests.proofs.list_rail.ListSeat.take_next.Goals as goal
 
 pub returns-in-Some-clause-answer : goal.returns-in-Some-clause-answer
 returns-in-Some-clause-answer c =

@@ -1,0 +1,2 @@
+pub mod ListSeats
+pub mod OnlySeat
