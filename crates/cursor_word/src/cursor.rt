@@ -20,7 +20,8 @@ impl Cursor {
         requires { Fits self }
         ensures word { result ≡ packed self }
         ensures back { unpacked result ≡ self }
-        ensures order { (other : Cursor) → Fits other → nat_cmp result (packed other) ≡ ⟦<Cursor as Ord>⟧.cmp self other }
+        ensures order { (other : Cursor) → Fits other
+            → nat_cmp result (packed other) ≡ ⟦<Cursor as Ord>⟧.cmp self other }
     {
         self.block * OFFSET_SPAN + self.offset
     }

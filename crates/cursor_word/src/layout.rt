@@ -64,7 +64,8 @@ pub fn entry_word(shape: &Shape, at: Cursor, word: u64) -> u64
 pub fn start_word(shape: &Shape, index: u64) -> u64
     requires { index < word_count shape.now }
     ensures value { result ≡ start_at shape.now index }
-    ensures part { (p : Part) → IsPart shape.now p → index_of shape.now p ≡ index → result ≡ start_of shape.now p }
+    ensures part { (p : Part) → IsPart shape.now p → index_of shape.now p ≡ index
+        → result ≡ start_of shape.now p }
 {
     let blocks = shape.blocks();
     if index < 2 {

@@ -41,21 +41,47 @@ impl Model for Shape {
 
     ghost Value = { Grid };
 
-    ghost view = { λ s. record { blocks = s.blocks; size = s.size; width = s.width; seats = s.seats } };
+    ghost view = { λ s. record {
+      blocks = s.blocks;
+      size = s.size;
+      width = s.width;
+      seats = s.seats;
+    } };
 
-    ghost invariant = { λ s. IsWithinLimits record { blocks = s.blocks; size = s.size; width = s.width; seats = s.seats } };
+    ghost invariant = { λ s. IsWithinLimits record {
+      blocks = s.blocks;
+      size = s.size;
+      width = s.width;
+      seats = s.seats;
+    } };
 
-    ghost inverse = { λ g. record { blocks = g.blocks; size = g.size; width = g.width; seats = g.seats } };
+    ghost inverse = { λ g. record {
+      blocks = g.blocks;
+      size = g.size;
+      width = g.width;
+      seats = g.seats;
+    } };
 }
 
 impl Shape {
     /// A shape of these numbers, or the first of them that is out of range.
     pub fn new(blocks: u64, size: u64, width: u64, seats: u64) -> Result<Shape, ShapeError>
-        ensures ok { IfOk result (λ shape. (shape ≡ record { blocks = blocks; size = size; width = width; seats = seats }) × IsWithinLimits shape) }
-        ensures blocks { (result ≡ Err ShapeError.Blocks) ↔ ((blocks < least_blocks) ⊎ (most_blocks < blocks)) }
-        ensures size { (result ≡ Err ShapeError.Size) ↔ ((least_blocks ≤ blocks) × (blocks ≤ most_blocks) × ((size < 1) ⊎ (most_size < size))) }
-        ensures width { (result ≡ Err ShapeError.Width) ↔ ((least_blocks ≤ blocks) × (blocks ≤ most_blocks) × (1 ≤ size) × (size ≤ most_size) × ((width < 1) ⊎ (most_width < width))) }
-        ensures seats { (result ≡ Err ShapeError.Seats) ↔ ((least_blocks ≤ blocks) × (blocks ≤ most_blocks) × (1 ≤ size) × (size ≤ most_size) × (1 ≤ width) × (width ≤ most_width) × ((seats < 1) ⊎ (most_seats < seats))) }
+        ensures ok { IfOk result (λ shape. (shape ≡ record {
+          blocks = blocks;
+          size = size;
+          width = width;
+          seats = seats;
+        }) × IsWithinLimits shape) }
+        ensures blocks { (result ≡ Err ShapeError.Blocks)
+            ↔ ((blocks < least_blocks) ⊎ (most_blocks < blocks)) }
+        ensures size { (result ≡ Err ShapeError.Size)
+            ↔ ((least_blocks ≤ blocks) × (blocks ≤ most_blocks) × ((size < 1) ⊎ (most_size < size))) }
+        ensures width { (result ≡ Err ShapeError.Width)
+            ↔ ((least_blocks ≤ blocks) × (blocks ≤ most_blocks) × (1 ≤ size) × (size ≤ most_size)
+            × ((width < 1) ⊎ (most_width < width))) }
+        ensures seats { (result ≡ Err ShapeError.Seats)
+            ↔ ((least_blocks ≤ blocks) × (blocks ≤ most_blocks) × (1 ≤ size) × (size ≤ most_size)
+            × (1 ≤ width) × (width ≤ most_width) × ((seats < 1) ⊎ (most_seats < seats))) }
     {
         if blocks < LEAST_BLOCKS || blocks > MOST_BLOCKS {
             return Err(ShapeError::Blocks);
@@ -109,7 +135,8 @@ impl Shape {
     pub fn words(&self) -> u64
         ensures count { result ≡ word_count self.now }
         ensures within { (p : Part) → IsPart self.now p → index_of self.now p < result }
-        ensures apart { (p q : Part) → IsPart self.now p → IsPart self.now q → index_of self.now p ≡ index_of self.now q → p ≡ q }
+        ensures apart { (p q : Part) → IsPart self.now p → IsPart self.now q
+            → index_of self.now p ≡ index_of self.now q → p ≡ q }
     {
         2 + 4 * self.blocks + self.blocks * self.size * self.width
     }

@@ -45,7 +45,8 @@ pub trait Rail: Sized + Sync + Drop {
 
     ghost TakesFrom: { Self → Self.Seat → Type 0 };
 
-    /// The seat's number, what its puts had accepted, what its takes answered, and what the steps of its last call found.
+    /// The seat's number, what its puts had accepted, what its takes answered, and what the steps
+    /// of its last call found.
     ghost number_of: { Self.Seat → ℕ };
 
     ghost made: { Self.Seat → List Placed };
@@ -77,7 +78,8 @@ pub trait Rail: Sized + Sync + Drop {
         ensures takes { (rail : Self) → TakesFrom rail seat.old → TakesFrom rail seat.new }
         ensures number { number_of seat.new ≡ number_of seat.old }
         ensures taken { taken seat.new ≡ taken seat.old }
-        ensures answer { Puts (shape_of self.now) DROPS entry.now (made seat.old) (made seat.new) (told seat.new).found result }
+        ensures answer { Puts (shape_of self.now) DROPS entry.now (made seat.old) (made seat.new)
+            (told seat.new).found result }
         ensures told { (told seat.new).answer ≡ Some (Answer.Put result) };
 
     /// Takes an entry.
@@ -88,7 +90,8 @@ pub trait Rail: Sized + Sync + Drop {
         ensures puts { (rail : Self) → PutsInto rail seat.old → PutsInto rail seat.new }
         ensures number { number_of seat.new ≡ number_of seat.old }
         ensures made { made seat.new ≡ made seat.old }
-        ensures answer { Takes (shape_of self.now) DROPS (made seat.new) out.old out.new (taken seat.old) (taken seat.new) (told seat.new).found result }
+        ensures answer { Takes (shape_of self.now) DROPS (made seat.new) out.old out.new
+            (taken seat.old) (taken seat.new) (told seat.new).found result }
         ensures told { (told seat.new).answer ≡ Some (Answer.Take result) };
 
     /// Closes the queue, with all its seats.
@@ -98,14 +101,20 @@ pub trait Rail: Sized + Sync + Drop {
         seats: Vec<Self::Seat>,
     ) -> Result<Self::Done, Refused<Self, Self::Seat>>
         requires seats { All (PutsInto self) seats.items }
-        requires all { IsPermutation (map number_of seats.items) (numbers_below (shape_of self).seats) }
+        requires all { IsPermutation (map number_of seats.items)
+            (numbers_below (shape_of self).seats) }
         ensures shape { IfOk result (λ done. done_shape done ≡ shape_of self) }
-        ensures accepted { IfOk result (λ done. IsAccepted (flat_map made seats.items) (done_accepted done)) }
-        ensures taken { IfOk result (λ done. IsPermutation (flat_map taken seats.items) (done_taken done)) }
+        ensures accepted { IfOk result (λ done. IsAccepted (flat_map made seats.items)
+            (done_accepted done)) }
+        ensures taken { IfOk result (λ done. IsPermutation (flat_map taken seats.items)
+            (done_taken done)) }
         ensures order { IfOk result (λ done. IsRising (places (done_taken done))) }
-        ensures retry { DROPS ≡ false → IfOk result (λ done. RetryOutcome (done_accepted done) (done_taken done) (done_left done)) }
-        ensures drop { DROPS ≡ true → IfOk result (λ done. DropOutcome (done_shape done) (done_accepted done) (done_taken done) (done_left done)) }
-        ensures refused { IfErr result (λ refused. (refused.rail ≡ self) × (refused.seats.items ≡ seats.items)) };
+        ensures retry { DROPS ≡ false → IfOk result (λ done. RetryOutcome (done_accepted done)
+            (done_taken done) (done_left done)) }
+        ensures drop { DROPS ≡ true → IfOk result (λ done. DropOutcome (done_shape done)
+            (done_accepted done) (done_taken done) (done_left done)) }
+        ensures refused { IfErr result (λ refused. (refused.rail ≡ self)
+            × (refused.seats.items ≡ seats.items)) };
 
     /// How many entries the seat's puts had accepted.
     fn puts(seat: &Self::Seat) -> u64
