@@ -1,4 +1,5 @@
--- Each number below the lesser of `pieces` and the first word is drawn once, and the second word counts the seats that are marked ended.
+-- Each number below the lesser of `pieces` and the first word is drawn once, and the second word
+-- counts the seats that are marked ended.
 use Rattle.std.specs.Prelude.{◌≡◌, ℕ, ◌+◌, ◌-◌, ◌^◌, ◌<◌, ◌≤◌, ◌==◌, Bool, true, false, ◌||◌, List, [], ◌∷◌, ◌++◌, Option, Some, None, if◌then◌else◌, All, sum_by, count_by, length, IsPermutation, flat_map}
 use Rattle.std.specs.List.{list_any}
 use mathlib.Core.Option.{some}
@@ -47,7 +48,8 @@ pub record Claimed (plan : Plan) (words : List ℕ) (views : List Share) : Type 
 abbrev pub share : ℕ → Plan → List ℕ → Bool → ℕ → Share
 share p plan d s e = record { parts = p; plan = plan; drawn = d; stopped = s; ended = e }
 
--- what a seat keeps that deals another, what it hands out, and what becomes of two that are gathered
+-- what a seat keeps that deals another, what it hands out, and what becomes of two that are
+-- gathered
 abbrev pub kept_share : Share → Share
 kept_share v = share (v.parts - 1) v.plan v.drawn v.stopped v.ended
 
@@ -55,7 +57,8 @@ abbrev pub given_share : Share → Share
 given_share v = share 1 v.plan [] false 0
 
 abbrev pub joint_share : Share → Share → Share
-joint_share v w = share (v.parts + w.parts) v.plan (v.drawn ++ w.drawn) (v.stopped || w.stopped) (v.ended + w.ended)
+joint_share v w = share (v.parts + w.parts) v.plan (v.drawn ++ w.drawn) (v.stopped || w.stopped)
+    (v.ended + w.ended)
 
 abbrev pub no_plan : Plan
 no_plan = record { pieces = 0; seats = 0 }
@@ -69,7 +72,9 @@ found_or (Some n) = n
 
 -- a claim draws what it found, beyond all that the seat drew before, or stops
 abbrev pub Draws : Share → Taken → Share → Type 0
-Draws v t w = (found_or t.found < v.plan.pieces → (w ≡ share v.parts v.plan (v.drawn ++ found_or t.found ∷ []) v.stopped v.ended) × All (λ d. d < found_or t.found) v.drawn)
+Draws v t w = (found_or t.found < v.plan.pieces
+    → (w ≡ share v.parts v.plan (v.drawn ++ found_or t.found ∷ []) v.stopped v.ended)
+    × All (λ d. d < found_or t.found) v.drawn)
     × (v.plan.pieces ≤ found_or t.found → w ≡ share v.parts v.plan v.drawn true v.ended)
 
 abbrev pub Marks : Share → Taken → Share → Type 0
@@ -97,26 +102,53 @@ one_if b = if b then 1 else 0
 abbrev pub IsFresh : Claimant → Drawing → Type 0
 IsFresh of s = (s.of ≡ of) × (s.drawn ≡ []) × (s.stopped ≡ false) × (s.ended ≡ false)
 
--- a seat after a claim that drew n, after one that found n at the end, after it was counted as ended where n were, and after it found that n ended
+-- a seat after a claim that drew n, after one that found n at the end, after it was counted as
+-- ended where n were, and after it found that n ended
 abbrev pub drew : Drawing → ℕ → Drawing
-drew s n = record { of = s.of; drawn = s.drawn ++ n ∷ []; stopped = s.stopped; ended = s.ended; log = s.log ++ added next_index n ∷ [] }
+drew s n = record {
+  of = s.of;
+  drawn = s.drawn ++ n ∷ [];
+  stopped = s.stopped;
+  ended = s.ended;
+  log = s.log ++ added next_index n ∷ [];
+}
 
 abbrev pub found_end : Drawing → ℕ → Drawing
-found_end s n = record { of = s.of; drawn = s.drawn; stopped = true; ended = s.ended; log = s.log ++ added next_index n ∷ [] }
+found_end s n = record {
+  of = s.of;
+  drawn = s.drawn;
+  stopped = true;
+  ended = s.ended;
+  log = s.log ++ added next_index n ∷ [];
+}
 
 abbrev pub marked : Drawing → ℕ → Drawing
-marked s n = record { of = s.of; drawn = s.drawn; stopped = s.stopped; ended = true; log = s.log ++ added ended_index n ∷ [] }
+marked s n = record {
+  of = s.of;
+  drawn = s.drawn;
+  stopped = s.stopped;
+  ended = true;
+  log = s.log ++ added ended_index n ∷ [];
+}
 
 abbrev pub looked : Drawing → ℕ → Drawing
-looked s n = record { of = s.of; drawn = s.drawn; stopped = s.stopped; ended = s.ended; log = s.log ++ loaded ended_index n ∷ [] }
+looked s n = record {
+  of = s.of;
+  drawn = s.drawn;
+  stopped = s.stopped;
+  ended = s.ended;
+  log = s.log ++ loaded ended_index n ∷ [];
+}
 
 -- one seat has taken in those of the list that no longer stand in `left`
 pub record Gathering (id : TableId) (all : Sitting Share) (left seats : List Drawing) : Type 0 where
   pub same : all.id ≡ id
   pub some_parts : 0 < all.view.parts
   pub count : all.view.parts + length left ≡ length seats
-  pub drawn : IsPermutation (flat_map (λ s. s.drawn) seats) (all.view.drawn ++ flat_map (λ s. s.drawn) left)
-  pub stopped : (list_any (λ s. s.stopped) left || all.view.stopped) ≡ list_any (λ s. s.stopped) seats
+  pub drawn : IsPermutation (flat_map (λ s. s.drawn) seats)
+      (all.view.drawn ++ flat_map (λ s. s.drawn) left)
+  pub stopped : (list_any (λ s. s.stopped) left || all.view.stopped) ≡ list_any (λ s. s.stopped)
+      seats
   pub own : All (λ s. s.of.id ≡ id) left
 
 abbrev pub IsSeatOf : Drawing → Sitting Share → Type 0

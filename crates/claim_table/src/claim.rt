@@ -27,7 +27,8 @@ impl Model for Claim {
 
     ghost view = { λ c. record { id = c.words.id; plan = c.words.key } };
 
-    ghost invariant = { λ c. (c.words.key.pieces ≡ c.pieces) × (c.words.id.words ≡ 2) × (0 < c.words.key.seats) };
+    ghost invariant = { λ c. (c.words.key.pieces ≡ c.pieces) × (c.words.id.words ≡ 2)
+        × (0 < c.words.key.seats) };
 }
 
 /// The token with which one worker draws. It knows what it drew.
@@ -41,9 +42,16 @@ pub struct ClaimSeat {
 impl Model for ClaimSeat {
     ghost Value = { Drawing };
 
-    ghost view = { λ s. record { of = record { id = s.seat.id; plan = s.seat.view.plan }; drawn = s.seat.view.drawn; stopped = s.stopped; ended = s.ended; log = s.seat.log } };
+    ghost view = { λ s. record {
+      of = record { id = s.seat.id; plan = s.seat.view.plan };
+      drawn = s.seat.view.drawn;
+      stopped = s.stopped;
+      ended = s.ended;
+      log = s.seat.log;
+    } };
 
-    ghost invariant = { λ s. (s.seat.view ≡ share 1 s.seat.view.plan s.seat.view.drawn s.stopped (one_if s.ended)) × IsStrictlyIncreasing s.seat.view.drawn };
+    ghost invariant = { λ s. (s.seat.view ≡ share 1 s.seat.view.plan s.seat.view.drawn s.stopped
+        (one_if s.ended)) × IsStrictlyIncreasing s.seat.view.drawn };
 }
 
 impl Claim {
@@ -66,12 +74,15 @@ impl Claim {
         Ok((Claim { words, pieces }, made))
     }
 
-    /// Draws the next number by one add, or finds that none is left. A seat that found the end takes no step.
+    /// Draws the next number by one add, or finds that none is left. A seat that found the end
+    /// takes no step.
     pub fn claim(&self, seat: &mut ClaimSeat) -> Option<u64>
         requires own { seat.old.of ≡ self.now }
         ensures same { seat.new.of ≡ seat.old.of }
-        ensures drawn { IfSome result (λ n. (n < self.now.plan.pieces) × (seat.new ≡ drew seat.old n)) }
-        ensures end { IfNone result (seat.old.stopped ≡ false → (found : ℕ) × (self.now.plan.pieces ≤ found) × (seat.new ≡ found_end seat.old found)) }
+        ensures drawn { IfSome result (λ n. (n < self.now.plan.pieces)
+            × (seat.new ≡ drew seat.old n)) }
+        ensures end { IfNone result (seat.old.stopped ≡ false → (found : ℕ)
+            × (self.now.plan.pieces ≤ found) × (seat.new ≡ found_end seat.old found)) }
         ensures none { IfNone result (seat.new.stopped ≡ true) }
         ensures stopped { seat.old.stopped ≡ true → (result ≡ None) × (seat.new ≡ seat.old) }
         ensures rising { IsStrictlyIncreasing seat.new.drawn }
@@ -92,7 +103,8 @@ impl Claim {
     pub fn end(&self, seat: &mut ClaimSeat)
         requires own { seat.old.of ≡ self.now }
         ensures same { seat.new.of ≡ seat.old.of }
-        ensures counted { seat.old.ended ≡ false → (found : ℕ) × (seat.new ≡ marked seat.old found) }
+        ensures counted { seat.old.ended ≡ false → (found : ℕ)
+            × (seat.new ≡ marked seat.old found) }
         ensures once { seat.old.ended ≡ true → seat.new ≡ seat.old }
     {
         if !seat.ended {
@@ -116,7 +128,8 @@ impl Claim {
         requires own { All (λ s. s.of ≡ self) seats.items }
         requires all { length seats.items ≡ self.plan.seats }
         requires stopped { Any (λ s. s.stopped ≡ true) seats.items }
-        ensures once { IsPermutation (flat_map (λ s. s.drawn) seats.items) (range_with_len 0 self.plan.pieces) }
+        ensures once { IsPermutation (flat_map (λ s. s.drawn) seats.items)
+            (range_with_len 0 self.plan.pieces) }
     {
         let Claim { words, pieces: _ } = self;
         let all = gather(&words, seats);
@@ -127,7 +140,13 @@ impl Claim {
 impl ClaimSeat {
     fn fresh(seat: WordSeat<Claiming>) -> ClaimSeat
         requires { seat.view ≡ share 1 seat.view.plan [] false 0 }
-        ensures { result ≡ record { of = record { id = seat.id; plan = seat.view.plan }; drawn = []; stopped = false; ended = false; log = seat.log } }
+        ensures { result ≡ record {
+          of = record { id = seat.id; plan = seat.view.plan };
+          drawn = [];
+          stopped = false;
+          ended = false;
+          log = seat.log;
+        } }
     {
         ClaimSeat {
             seat,
@@ -138,7 +157,8 @@ impl ClaimSeat {
 
     fn into_seat(self) -> WordSeat<Claiming>
         ensures id { result.id ≡ self.of.id }
-        ensures view { result.view ≡ share 1 self.of.plan self.drawn self.stopped (one_if self.ended) }
+        ensures view { result.view ≡ share 1 self.of.plan self.drawn self.stopped
+            (one_if self.ended) }
     {
         let ClaimSeat { seat, .. } = self;
         seat
@@ -154,7 +174,8 @@ fn deal(
     requires words { (words.now.id.words ≡ 2) × (first.id ≡ words.now.id) }
     requires first { (0 < plan.seats) × (first.view ≡ share plan.seats plan [] false 0) }
     ensures count { IfOk result (λ v. length v.items ≡ plan.seats) }
-    ensures fresh { IfOk result (λ v. All (IsFresh (record { id = words.now.id; plan = plan })) v.items) }
+    ensures fresh { IfOk result (λ v. All (IsFresh (record { id = words.now.id; plan = plan }))
+        v.items) }
 {
     let mut made = Vec::new(alloc);
     for left in 1..plan.seats {

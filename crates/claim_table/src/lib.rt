@@ -1,4 +1,5 @@
-//! Numbers that are drawn once, and a count of the workers that ended, over shared words with a log.
+//! Numbers that are drawn once, and a count of the workers that ended, over shared words with a
+//! log.
 #![tactic(auto)]
 
 mod claim;

@@ -7,7 +7,8 @@ pub struct Plan {
     pub seats: u64,
 }
 
-/// What a seat knows: how many seats it stands for, what they drew, whether one found the end, and how many are marked ended.
+/// What a seat knows: how many seats it stands for, what they drew, whether one found the end, and
+/// how many are marked ended.
 /// A share of no part is spent. No value of it is made.
 pub struct Share {
     pub parts: u64,

@@ -3,7 +3,8 @@ use Rattle.std.specs.Prelude.{ℕ, ◌+◌, ◌-◌, ◌*◌, ◌/◌, ◌<◌, 
 use Rattle.cursor_word.specs.Shape.{Grid}
 use Rattle.cursor_word.specs.Cursor.{cursor, packed}
 
--- the parts of a table. A cursor is of a physical block, an entry word of a physical block, an offset and its number in the entry
+-- the parts of a table. A cursor is of a physical block, an entry word of a physical block, an
+-- offset and its number in the entry
 pub data Part : Type 0 where
   producer : Part
   consumer : Part
@@ -52,4 +53,6 @@ start_of g (entry b offset w) = 0
 
 -- the word with which an index starts
 abbrev pub start_at : Grid → ℕ → ℕ
-start_at g i = if nat_lt i 2 then g.blocks else (if nat_lt i (2 + 4 * g.blocks) then start_cursor g ((i - 2) / 4) else 0)
+start_at g i =
+    if nat_lt i 2 then g.blocks
+    else (if nat_lt i (2 + 4 * g.blocks) then start_cursor g ((i - 2) / 4) else 0)

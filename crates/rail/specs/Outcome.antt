@@ -24,7 +24,8 @@ pub record RetryOutcome (accepted taken left : List Placed) : Type 0 where
 
 -- not taken, and not in a block that was reused
 abbrev pub is_left : Grid → ℕ → List Placed → Placed → Bool
-is_left g n taken item = nat_le (low g n) item.place && not (list_any (λ (t : Placed). t.place == item.place) taken)
+is_left g n taken item =
+    nat_le (low g n) item.place && not (list_any (λ (t : Placed). t.place == item.place) taken)
 
 -- what is taken is accepted and taken once, and the rest from the oldest block on is left
 pub record DropOutcome (g : Grid) (accepted taken left : List Placed) : Type 0 where
@@ -36,8 +37,8 @@ pub record DropOutcome (g : Grid) (accepted taken left : List Placed) : Type 0 w
 abbrev pub IsTakenOrLeft : List Placed → List Placed → Placed → Type 0
 IsTakenOrLeft taken left item = Contains taken item ⊎ Contains left item
 
--- What a drop outcome comes to: an accepted item that is neither taken nor left lies in a block that
--- was reused, and the newest items, as many as all blocks but one hold, are taken or left.
+-- What a drop outcome comes to: an accepted item that is neither taken nor left lies in a block
+-- that was reused, and the newest items, as many as all blocks but one hold, are taken or left.
 pub record KeepsNewest (g : Grid) (accepted taken left : List Placed) : Type 0 where
   pub reused : (item : Placed) → Contains accepted item
       → (item.place < low g (length accepted)) ⊎ IsTakenOrLeft taken left item

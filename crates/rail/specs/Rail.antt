@@ -20,15 +20,22 @@ pub record Gains (old new : List Placed) (item : Placed) : Type 0 where
 abbrev pub Puts : Grid → Bool → List ℕ → List Placed → List Placed → List ℕ → Put → Type 0
 Puts g drops words old new found (put.Ok place) = Gains old new (placed place words)
 Puts g drops words old new found (put.Full head consumed) =
-    (drops ≡ false) × (new ≡ old) × IsBefore consumed (cursor (head + 1 - g.blocks) g.size) × All (λ p. p < first_of g (head + 1)) (places old)
+    (drops ≡ false) × (new ≡ old) × IsBefore consumed (cursor (head + 1 - g.blocks) g.size)
+    × All (λ p. p < first_of g (head + 1)) (places old)
 Puts g drops words old new found (put.Busy why) = (new ≡ old) × Shows found why
 
--- a take into these words, by a seat with this made list and these taken lists before and after it, answers so
-abbrev pub Takes : Grid → Bool → List Placed → List ℕ → List ℕ → List Placed → List Placed → List ℕ → Take → Type 0
+-- a take into these words, by a seat with this made list and these taken lists before and after it,
+-- answers so
+abbrev pub Takes : Grid → Bool → List Placed → List ℕ → List ℕ → List Placed → List Placed → List ℕ
+    → Take → Type 0
 Takes g drops made out_old out old new found (take.Ok place) =
-    Gains old new (placed place out) × ((words : List ℕ) → Contains made (placed place words) → words ≡ out)
+    Gains old new (placed place out) × ((words : List ℕ) → Contains made (placed place words)
+    → words ≡ out)
 Takes g drops made out_old out old new found (take.Empty place) =
-    (out ≡ out_old) × (new ≡ old) × ((p : ℕ) → Contains (places made) p → p ≢ place) × All (λ p. p < place) (places old)
-Takes g drops made out_old out old new found (take.Busy why) = (out ≡ out_old) × (new ≡ old) × Shows found why
+    (out ≡ out_old) × (new ≡ old) × ((p : ℕ) → Contains (places made) p → p ≢ place)
+    × All (λ p. p < place) (places old)
+Takes g drops made out_old out old new found (take.Busy why) = (out ≡ out_old) × (new ≡ old)
+    × Shows found why
 Takes g drops made out_old out old new found (take.Overrun place now) =
-    (drops ≡ true) × (new ≡ old) × (now.block % g.blocks ≡ (cursor_of g place).block % g.blocks) × ((cursor_of g place).block < now.block)
+    (drops ≡ true) × (new ≡ old) × (now.block % g.blocks ≡ (cursor_of g place).block % g.blocks)
+    × ((cursor_of g place).block < now.block)

@@ -1,4 +1,5 @@
--- What one thread alone is answered: a list and two numbers. So many entries are accepted, and so many are taken.
+-- What one thread alone is answered: a list and two numbers. So many entries are accepted, and so
+-- many are taken.
 use Rattle.std.specs.Prelude.{◌≡◌, ℕ, ◌+◌, ◌-◌, ◌*◌, ◌/◌, ◌%◌, ◌<◌, ◌≤◌, List, [], ◌∷◌, max, if◌then◌else◌, ◌==◌}
 use Rattle.cursor_word.specs.Shape.{Grid}
 use Rattle.cursor_word.specs.Cursor.{low}
@@ -16,7 +17,8 @@ pub record IsFull (g : Grid) (accepted taken : ℕ) : Type 0 where
 -- in retry-new. Of the consumed cursor nothing is said
 abbrev pub RetryPut : Grid → ℕ → ℕ → Put → Type 0
 RetryPut g accepted taken (put.Ok place) = (place ≡ accepted) × (IsFull g accepted taken → ⊥)
-RetryPut g accepted taken (put.Full head consumed) = (head ≡ g.blocks + accepted / g.size - 1) × IsFull g accepted taken
+RetryPut g accepted taken (put.Full head consumed) = (head ≡ g.blocks + accepted / g.size - 1)
+    × IsFull g accepted taken
 RetryPut g accepted taken (put.Busy why) = ⊥
 
 abbrev pub retry_take : ℕ → ℕ → Take
@@ -35,4 +37,6 @@ abbrev pub drop_next : Grid → ℕ → ℕ → ℕ
 drop_next g accepted next = max next (low g accepted)
 
 abbrev pub drop_take : Grid → ℕ → ℕ → Take
-drop_take g accepted next = if drop_next g accepted next == accepted then take.Empty accepted else take.Ok (drop_next g accepted next)
+drop_take g accepted next =
+    if drop_next g accepted next == accepted then take.Empty accepted
+    else take.Ok (drop_next g accepted next)

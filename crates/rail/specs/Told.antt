@@ -7,7 +7,8 @@ use Rattle.rail.specs.declared.answer.Answer.TheVariants as answer
 use Rattle.rail.specs.declared.answer.Why.{Why}
 use Rattle.rail.specs.declared.answer.Why.TheVariants.{Unfinished, Moved}
 
--- the values that the steps of the last call found, in order (of a store: the value that it wrote), and that call's answer
+-- the values that the steps of the last call found, in order (of a store: the value that it wrote),
+-- and that call's answer
 pub record Told : Type 0 where
   pub found : List ℕ
   pub answer : Option Answer

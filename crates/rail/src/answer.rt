@@ -1,6 +1,7 @@
 use cursor_word::Cursor;
 
-/// Why a call of a queue gave up: two values that it read, in this order, which differ. A head stands as the cursor of its block at offset 0.
+/// Why a call of a queue gave up: two values that it read, in this order, which differ. A head
+/// stands as the cursor of its block at offset 0.
 #[derive(Clone, Copy, Debug, PartialEq, Eq)]
 pub enum Why {
     Unfinished {

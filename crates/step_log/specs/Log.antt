@@ -46,20 +46,26 @@ module _ {V : Type 0} where
   abbrev pub with_step : Logged V → V → Taken → Logged V
   with_step l v t = record { view = v; log = l.log ++ t ∷ [] }
 
-  -- Whatever the words and the views are when the word i becomes f of what it was, some view that is told keeps the rule
+  -- Whatever the words and the views are when the word i becomes f of what it was, some view that
+  -- is told keeps the rule
   abbrev pub Keeps : (List ℕ → List V → Type 0) → V → ℕ → (ℕ → ℕ) → (ℕ → V → Type 0) → Type 0
-  Keeps holds v i f then = (words : List ℕ) (views : List V) (at : ℕ) → holds words views → get_elem? views at ≡ some v → slice_index words i < 2 ^ 64
-      → (w : V) × holds (slice_set words i (f (slice_index words i))) (slice_set views at w) × then (slice_index words i) w
+  Keeps holds v i f then = (words : List ℕ) (views : List V) (at : ℕ) → holds words views
+      → get_elem? views at ≡ some v → slice_index words i < 2 ^ 64
+      → (w : V) × holds (slice_set words i (f (slice_index words i))) (slice_set views at w)
+      × then (slice_index words i) w
 
   -- the same where the view is cut in two, and a new seat has the second
   abbrev pub Parts : (List ℕ → List V → Type 0) → V → V → V → Type 0
-  Parts holds v left right = (words : List ℕ) (views : List V) (at : ℕ) → holds words views → get_elem? views at ≡ some v → holds words (slice_set views at left ++ right ∷ [])
+  Parts holds v left right = (words : List ℕ) (views : List V) (at : ℕ) → holds words views
+      → get_elem? views at ≡ some v → holds words (slice_set views at left ++ right ∷ [])
 
   -- the same where a seat takes in another, which is spent
   abbrev pub Merges : (List ℕ → List V → Type 0) → V → V → V → V → Type 0
-  Merges holds v w both spent = (words : List ℕ) (views : List V) (at other : ℕ) → holds words views → get_elem? views at ≡ some v → get_elem? views other ≡ some w → ¬ (other ≡ at)
+  Merges holds v w both spent = (words : List ℕ) (views : List V) (at other : ℕ) → holds words views
+      → get_elem? views at ≡ some v → get_elem? views other ≡ some w → ¬ (other ≡ at)
       → holds words (slice_set (slice_set views at both) other spent)
 
   -- the words at the end
   abbrev pub Ends : (List ℕ → List V → Type 0) → V → List ℕ → Type 0
-  Ends holds v words = (views : List V) × (at : ℕ) × holds words views × (get_elem? views at ≡ some v)
+  Ends holds v words = (views : List V) × (at : ℕ) × holds words views
+      × (get_elem? views at ≡ some v)

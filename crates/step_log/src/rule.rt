@@ -7,7 +7,8 @@ use crate::step::Logged;
 use atomic_table::{Join, Play, Split, TableRule};
 use std::marker::PhantomData;
 
-/// The fact that holds between any two steps. It speaks of no log: logs stand beside the views, and the clauses of a call read them.
+/// The fact that holds between any two steps. It speaks of no log: logs stand beside the views, and
+/// the clauses of a call read them.
 pub trait StepRule {
     type Key: Drop;
 
@@ -23,9 +24,11 @@ pub trait StepRule {
     ghost spent: { Self.View };
 }
 
-/// What a step tells its caller. One that tells of loads, stores, adds and maxima alone names `then` alone.
+/// What a step tells its caller. One that tells of loads, stores, adds and maxima alone names
+/// `then` alone.
 pub trait Told<U: StepRule> {
-    // Of the view before, the step, and the view after. The step has the value that it found and the one that it brought, which determine the word afterwards.
+    // Of the view before, the step, and the view after. The step has the value that it found and
+    // the one that it brought, which determine the word afterwards.
     ghost then: { U.View → Taken → U.View → Type 0 };
 
     // The view that a split leaves its seat, and the one that the new seat gets.
@@ -52,7 +55,8 @@ pub(crate) struct Loads<U, T> {
 }
 
 impl<U: StepRule, T: Told<U>> Play<(), Logged<U::View>> for Loads<U, T> {
-    ghost then = { λ s me n after. (after ≡ (with_step me.0 after.0.view (loaded s.word n), me.1)) × T.then me.0.view (loaded s.word n) after.0.view };
+    ghost then = { λ s me n after. (after ≡ (with_step me.0 after.0.view (loaded s.word n), me.1))
+        × T.then me.0.view (loaded s.word n) after.0.view };
 }
 
 pub(crate) struct Stores<U, T> {
@@ -60,7 +64,10 @@ pub(crate) struct Stores<U, T> {
 }
 
 impl<U: StepRule, T: Told<U>> Play<(), Logged<U::View>> for Stores<U, T> {
-    ghost then = { λ s me n after. (after ≡ (with_step me.0 after.0.view (stored s.word s.first), me.1)) × T.then me.0.view (stored s.word s.first) after.0.view };
+    ghost then = { λ s me n after. (after ≡ (
+      with_step me.0 after.0.view (stored s.word s.first),
+      me.1,
+    )) × T.then me.0.view (stored s.word s.first) after.0.view };
 }
 
 pub(crate) struct Adds<U, T> {
@@ -68,7 +75,8 @@ pub(crate) struct Adds<U, T> {
 }
 
 impl<U: StepRule, T: Told<U>> Play<(), Logged<U::View>> for Adds<U, T> {
-    ghost then = { λ s me n after. (after ≡ (with_step me.0 after.0.view (added s.word n), me.1)) × T.then me.0.view (added s.word n) after.0.view };
+    ghost then = { λ s me n after. (after ≡ (with_step me.0 after.0.view (added s.word n), me.1))
+        × T.then me.0.view (added s.word n) after.0.view };
 }
 
 pub(crate) struct Raises<U, T> {
@@ -76,7 +84,10 @@ pub(crate) struct Raises<U, T> {
 }
 
 impl<U: StepRule, T: Told<U>> Play<(), Logged<U::View>> for Raises<U, T> {
-    ghost then = { λ s me n after. (after ≡ (with_step me.0 after.0.view (raised s.word s.first n), me.1)) × T.then me.0.view (raised s.word s.first n) after.0.view };
+    ghost then = { λ s me n after. (after ≡ (
+      with_step me.0 after.0.view (raised s.word s.first n),
+      me.1,
+    )) × T.then me.0.view (raised s.word s.first n) after.0.view };
 }
 
 pub(crate) struct Cuts<U, T> {

@@ -10,7 +10,8 @@ pub enum Move {
     Join,
 }
 
-/// A step that was taken. A store, a split and a join find nothing; a load, an add, a split and a join bring nothing, written 0.
+/// A step that was taken. A store, a split and a join find nothing; a load, an add, a split and a
+/// join bring nothing, written 0.
 pub struct Taken {
     pub made: Move,
     pub index: u64,
@@ -18,7 +19,8 @@ pub struct Taken {
     pub found: Option<u64>,
 }
 
-/// What a seat knows: the rule's own view, with the log beside it. A clause reads an array as a list, of any length.
+/// What a seat knows: the rule's own view, with the log beside it. A clause reads an array as a
+/// list, of any length.
 pub struct Logged<V> {
     pub view: V,
     pub log: [Taken; 0],

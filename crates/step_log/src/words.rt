@@ -24,7 +24,8 @@ impl<U: StepRule> Model for Words<U> {
     ghost invariant = { λ w. w.table.shared.table_id.slots ≡ 0 };
 }
 
-/// The token with which one caller steps: a view of the words, and the log of the steps that were taken with it. It has no bytes at run time.
+/// The token with which one caller steps: a view of the words, and the log of the steps that were
+/// taken with it. It has no bytes at run time.
 #[derive(Drop)]
 pub struct WordSeat<U: StepRule> {
     seat: Seat<(), Logged<U::View>>,
@@ -33,13 +34,18 @@ pub struct WordSeat<U: StepRule> {
 impl<U: StepRule> Model for WordSeat<U> {
     ghost Value = { Sitting U.View };
 
-    ghost view = { λ s. record { id = s.seat.table_id; view = s.seat.me.0.view; log = s.seat.me.0.log } };
+    ghost view = { λ s. record {
+      id = s.seat.table_id;
+      view = s.seat.me.0.view;
+      log = s.seat.me.0.log;
+    } };
 
     ghost invariant = { λ s. s.seat.me.1 ≡ [] };
 }
 
 impl<U: StepRule> Words<U> {
-    /// The words as they are given, and one seat with an empty log. After an `AllocError` both `words` and `key` are given up.
+    /// The words as they are given, and one seat with an empty log. After an `AllocError` both
+    /// `words` and `key` are given up.
     pub fn make(
         alloc: Global,
         words: Vec<u64>,
@@ -58,8 +64,13 @@ impl<U: StepRule> Words<U> {
     pub fn load<T: Told<U>>(&self, seat: &mut WordSeat<U>, index: u64) -> u64
         requires own { seat.old.id ≡ self.now.id }
         requires index { index < self.now.id.words }
-        requires rule { Keeps (U.holds self.now.key) seat.old.view index (λ n. n) (λ n. T.then seat.old.view (loaded index n)) }
-        ensures log { seat.new ≡ record { id = seat.old.id; view = seat.new.view; log = seat.old.log ++ loaded index result ∷ [] } }
+        requires rule { Keeps (U.holds self.now.key) seat.old.view index (λ n. n)
+            (λ n. T.then seat.old.view (loaded index n)) }
+        ensures log { seat.new ≡ record {
+          id = seat.old.id;
+          view = seat.new.view;
+          log = seat.old.log ++ loaded index result ∷ [];
+        } }
         ensures told { T.then seat.old.view (loaded index result) seat.new.view }
     {
         let shared = &self.table.shared;
@@ -70,8 +81,13 @@ impl<U: StepRule> Words<U> {
     pub fn store<T: Told<U>>(&self, seat: &mut WordSeat<U>, index: u64, value: u64)
         requires own { seat.old.id ≡ self.now.id }
         requires index { index < self.now.id.words }
-        requires rule { Keeps (U.holds self.now.key) seat.old.view index (λ _. value) (λ n. T.then seat.old.view (stored index value)) }
-        ensures log { seat.new ≡ record { id = seat.old.id; view = seat.new.view; log = seat.old.log ++ stored index value ∷ [] } }
+        requires rule { Keeps (U.holds self.now.key) seat.old.view index (λ _. value)
+            (λ n. T.then seat.old.view (stored index value)) }
+        ensures log { seat.new ≡ record {
+          id = seat.old.id;
+          view = seat.new.view;
+          log = seat.old.log ++ stored index value ∷ [];
+        } }
         ensures told { T.then seat.old.view (stored index value) seat.new.view }
     {
         let shared = &self.table.shared;
@@ -82,8 +98,13 @@ impl<U: StepRule> Words<U> {
     pub fn add_one<T: Told<U>>(&self, seat: &mut WordSeat<U>, index: u64) -> u64
         requires own { seat.old.id ≡ self.now.id }
         requires index { index < self.now.id.words }
-        requires rule { Keeps (U.holds self.now.key) seat.old.view index (λ n. (n + 1) % 2 ^ 64) (λ n. T.then seat.old.view (added index n)) }
-        ensures log { seat.new ≡ record { id = seat.old.id; view = seat.new.view; log = seat.old.log ++ added index result ∷ [] } }
+        requires rule { Keeps (U.holds self.now.key) seat.old.view index (λ n. (n + 1) % 2 ^ 64)
+            (λ n. T.then seat.old.view (added index n)) }
+        ensures log { seat.new ≡ record {
+          id = seat.old.id;
+          view = seat.new.view;
+          log = seat.old.log ++ added index result ∷ [];
+        } }
         ensures told { T.then seat.old.view (added index result) seat.new.view }
     {
         let shared = &self.table.shared;
@@ -94,8 +115,13 @@ impl<U: StepRule> Words<U> {
     pub fn max<T: Told<U>>(&self, seat: &mut WordSeat<U>, index: u64, value: u64) -> u64
         requires own { seat.old.id ≡ self.now.id }
         requires index { index < self.now.id.words }
-        requires rule { Keeps (U.holds self.now.key) seat.old.view index (λ n. max n value) (λ n. T.then seat.old.view (raised index value n)) }
-        ensures log { seat.new ≡ record { id = seat.old.id; view = seat.new.view; log = seat.old.log ++ raised index value result ∷ [] } }
+        requires rule { Keeps (U.holds self.now.key) seat.old.view index (λ n. max n value)
+            (λ n. T.then seat.old.view (raised index value n)) }
+        ensures log { seat.new ≡ record {
+          id = seat.old.id;
+          view = seat.new.view;
+          log = seat.old.log ++ raised index value result ∷ [];
+        } }
         ensures told { T.then seat.old.view (raised index value result) seat.new.view }
     {
         let shared = &self.table.shared;
@@ -106,8 +132,13 @@ impl<U: StepRule> Words<U> {
     pub fn split<T: Told<U>>(&self, seat: &mut WordSeat<U>) -> WordSeat<U>
         requires own { seat.old.id ≡ self.now.id }
         requires some { 0 < self.now.id.words }
-        requires rule { Parts (U.holds self.now.key) seat.old.view (T.left seat.old.view) (T.right seat.old.view) }
-        ensures kept { seat.new ≡ record { id = seat.old.id; view = T.left seat.old.view; log = seat.old.log ++ parted ∷ [] } }
+        requires rule { Parts (U.holds self.now.key) seat.old.view (T.left seat.old.view)
+            (T.right seat.old.view) }
+        ensures kept { seat.new ≡ record {
+          id = seat.old.id;
+          view = T.left seat.old.view;
+          log = seat.old.log ++ parted ∷ [];
+        } }
         ensures given { result ≡ record { id = seat.old.id; view = T.right seat.old.view; log = [] } }
     {
         let shared = &self.table.shared;
@@ -115,12 +146,18 @@ impl<U: StepRule> Words<U> {
         WordSeat { seat: given }
     }
 
-    /// Loads word 0, and takes in the other seat, whose view and log are spent. The load is told to nobody.
+    /// Loads word 0, and takes in the other seat, whose view and log are spent. The load is told to
+    /// nobody.
     pub fn join<T: Told<U>>(&self, seat: &mut WordSeat<U>, other: WordSeat<U>)
         requires own { (seat.old.id ≡ self.now.id) × (other.id ≡ self.now.id) }
         requires some { 0 < self.now.id.words }
-        requires rule { Merges (U.holds self.now.key) seat.old.view other.view (T.both seat.old.view other.view) U.spent }
-        ensures taken { seat.new ≡ record { id = seat.old.id; view = T.both seat.old.view other.view; log = seat.old.log ++ merged ∷ [] } }
+        requires rule { Merges (U.holds self.now.key) seat.old.view other.view
+            (T.both seat.old.view other.view) U.spent }
+        ensures taken { seat.new ≡ record {
+          id = seat.old.id;
+          view = T.both seat.old.view other.view;
+          log = seat.old.log ++ merged ∷ [];
+        } }
     {
         let WordSeat { seat: other } = other;
         let shared = &self.table.shared;
