@@ -1,7 +1,6 @@
 -- The order of the seats is of no matter for the invariant.
-use Rattle.std.proofs.Common.{◌≡◌, ℕ, ◌/◌, ◌<◌, ◌≤◌, List, ◌∙◌, inl, inr, ⊎_elim, arith}
-use Rattle.std.specs.Prelude.{Some, IsPermutation, slice_get}
-use Rattle.std.specs.List.{sum_by}
+use Rattle.std.proofs.Common.{ℕ, ◌/◌, List, inl, inr, ⊎_elim, arith}
+use Rattle.std.specs.Prelude.{IsPermutation}
 use Rattle.cursor_word.specs.Shape.{Grid}
 use Rattle.cursor_word.specs.Cursor.{offset_span}
 use Rattle.put_side.specs.Cursors.{place, put_cursors}
