@@ -13,7 +13,7 @@ use Rattle.span_words.specs.declared.span.SpanEvent.{SpanEvent}
 use Rattle.span_words.specs.Span.{spelling}
 use Rattle.trace_json.specs.Trace.{HasFile}
 use Rattle.word_workers.specs.Trace.{IsSpanOfSome, NamesText}
-use Rattle.profile_cli.specs.Trace.{Spell}
+use Rattle.profile_cli.specs.Written.{Spell}
 
 module _ (made taken batches accepted done_taken left shown : List Placed) (a : IsAccepted made accepted) (b : IsPermutation batches taken) (t : IsPermutation taken done_taken) (o : RetryOutcome accepted done_taken left) (s : shown ≡ left) where
   -- all that is gathered is all that was accepted

@@ -5,4 +5,5 @@ pub mod Held
 pub mod Planned
 pub mod UsageWords
 pub mod Said
-pub mod Complete
+pub mod Due
+pub mod Left

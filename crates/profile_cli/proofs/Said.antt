@@ -3,7 +3,10 @@ use Rattle.std.proofs.Common.{◌≡◌, ℕ, ◌+◌, ◌≤◌, Bool, true, fa
 use lib.Seq.{take-append-add}
 use Rattle.std.proofs.lemmas.List.{take-append-le}
 use Rattle.flow_io.specs.Flow.{Rose, gained, GainedPart}
-use Rattle.profile_cli.specs.Messages.{Said}
+use Rattle.profile_cli.specs.declared.ending.Ending.{Ending}
+use Rattle.profile_cli.specs.declared.ending.Ending.TheVariants.{Done}
+use Rattle.profile_cli.specs.Endings.{message_of}
+use Rattle.profile_cli.specs.Messages.{Messages, Said, Says}
 
 gained_twice : (told : Option (List ℕ)) (xs ys : List ℕ) → gained (gained told xs) ys ≡ gained told (xs ++ ys)
 gained_twice None xs ys = refl
@@ -24,3 +27,8 @@ said_more old mid new before between now xs ys m le (inr h) = inr (rose_from bef
 pub said_last : (b : Bool) (old new : Option (List ℕ)) (before now : ℕ) (xs : List ℕ) → (b ≡ true → new ≡ gained old xs) → (b ≡ false → GainedPart old new xs) → (b ≡ false → Rose before now) → Said old new before now xs
 said_last true old new before now xs all part cause = inl (all refl)
 said_last false old new before now xs all part cause = inr (cause refl, part refl)
+
+-- where not all was done, the message of the ending is said
+pub says_other : (names : List (List ℕ)) (ending : Ending) (before after : Messages) → (ending ≡ Done → ⊥) → Said before.told after.told before.faults after.faults (message_of names ending) → Says names ending before after
+says_other names Done before after other said = absurd (other refl)
+says_other names ending before after other said = said

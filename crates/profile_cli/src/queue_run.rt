@@ -1,14 +1,14 @@
-ghost use Rattle.std.specs.Prelude.{◌≡◌, ◌≤◌, ◌<◌, ◌^◌, [], false, length, map, IfOk};
+ghost use Rattle.std.specs.Prelude.{◌≡◌, ◌≤◌, [], false, length, map, sum_by, IfOk};
 ghost use Rattle.std.specs.List.{All};
-ghost use Rattle.std.specs.FinMap as map_of;
-ghost use Rattle.rail.specs.Items.{places};
-ghost use Rattle.rail.specs.Outcome.{RetryOutcome, numbers_below};
+ghost use Rattle.rail.specs.Outcome.{numbers_below};
 ghost use Rattle.trace_json.specs.Trace.{HasFile};
-ghost use Rattle.word_text.specs.Counts.{add_all};
-ghost use Rattle.word_workers.specs.Spans.{AllLieIn, plan_words};
-ghost use Rattle.word_workers.specs.Trace.{IsSpanOfSome, RunTrace};
-ghost use Rattle.profile_cli.specs.Trace.{Spell};
-ghost use Rattle.profile_cli.specs.Usage.{IsWithinLimits};
+ghost use Rattle.word_text.specs.Counts.{counts_of_all};
+ghost use Rattle.word_text.specs.Pieces.{plan_of};
+ghost use Rattle.word_workers.specs.Trace.{IsSpanOfSome};
+ghost use Rattle.profile_cli.specs.Queue.{IsQueueOf, RetryNew, shape_for};
+ghost use Rattle.profile_cli.specs.Texts.{input_limit};
+ghost use Rattle.profile_cli.specs.Usage.{IsWithinLimits, asked_of};
+ghost use Rattle.profile_cli.specs.Written.{Spell};
 
 use crate::options::Options;
 use crate::rails::Rails;
@@ -32,7 +32,7 @@ pub struct Ran<Q: Rail> {
 }
 
 /// Makes a queue that keeps all, and runs all workers through it.
-pub fn run_retry<X: Threads + Wait + Sync, C: Clock, G: Gate, R: Rails>(
+pub fn run_retry_new<X: Threads + Wait + Sync, C: Clock, G: Gate, R: Rails>(
     rt: &X,
     alloc: Global,
     options: &Options<'_>,
@@ -43,19 +43,17 @@ pub fn run_retry<X: Threads + Wait + Sync, C: Clock, G: Gate, R: Rails>(
     rails: &R,
 ) -> Result<Ran<R::Retry>, AllocError>
     requires limits { IsWithinLimits options.now }
-    requires inside { AllLieIn texts.now plan.now }
-    requires words { length (plan_words plan.now texts.now) < 2 ^ 63 }
-    ensures counts { IfOk result (λ ran. ran.counts
-        ≡ add_all map_of.empty (plan_words plan.now texts.now)) }
-    ensures shape { IfOk result (λ ran.
-        ((R.Retry.done_shape ran.done).blocks ≡ options.now.blocks)
-        × ((R.Retry.done_shape ran.done).size ≡ options.now.size)) }
-    ensures order { IfOk result (λ ran. places (R.Retry.done_accepted ran.done)
-        ≡ numbers_below (length (R.Retry.done_accepted ran.done))) }
-    ensures trace { IfOk result (λ ran. RunTrace (R.Retry.done_accepted ran.done)
-        options.now.workers plan.now texts.now (C.ticks clock.now)) }
-    ensures outcome { IfOk result (λ ran. RetryOutcome (R.Retry.done_accepted ran.done)
-        (R.Retry.done_taken ran.done) (R.Retry.done_left ran.done)) }
+    requires plan { plan.now ≡ plan_of texts.now options.now.piece }
+    requires size { sum_by length texts.now ≤ input_limit }
+    ensures counts { IfOk result (λ ran. ran.counts ≡ counts_of_all texts.now) }
+    ensures queue { IfOk result (λ ran.
+        IsQueueOf (asked_of options.now) texts.now (C.ticks clock.now) (record {
+          mode = RetryNew;
+          shape = R.Retry.done_shape ran.done;
+          accepted = R.Retry.done_accepted ran.done;
+          taken = R.Retry.done_taken ran.done;
+          left = R.Retry.done_left ran.done;
+        })) }
     ensures events { IfOk result (λ ran. Spell ran.events.items (R.Retry.done_accepted ran.done)) }
     ensures files { IfOk result (λ ran. All (HasFile (length texts.now)) ran.events.items) }
 {
@@ -63,53 +61,44 @@ pub fn run_retry<X: Threads + Wait + Sync, C: Clock, G: Gate, R: Rails>(
         unreachable!()
     };
     let (rail, seats) = rails.retry(alloc, shape)?;
-    run_queue(
-        rt,
-        alloc,
-        plan,
-        texts,
-        options.workers,
-        rail,
-        seats,
-        clock,
-        gate,
-    )
+    run_through(rt, alloc, options, plan, texts, rail, seats, clock, gate)
 }
 
 /// Runs all workers through a queue that keeps all, closes it, and reads the spans that it had accepted.
-fn run_queue<X: Threads + Wait + Sync, Q: Rail, C: Clock, G: Gate>(
+fn run_through<X: Threads + Wait + Sync, Q: Rail, C: Clock, G: Gate>(
     rt: &X,
     alloc: Global,
+    options: &Options<'_>,
     plan: &Plan,
     texts: &[Text],
-    workers: u64,
     rail: Q,
     seats: Vec<Q::Seat>,
     clock: &C,
     gate: &G,
 ) -> Result<Ran<Q>, AllocError>
+    requires limits { IsWithinLimits options.now }
+    requires plan { plan.now ≡ plan_of texts.now options.now.piece }
+    requires size { sum_by length texts.now ≤ input_limit }
     requires keeps { Q.DROPS ≡ false }
-    requires workers { (1 ≤ workers) × (workers ≤ 255) }
-    requires width { (Q.shape_of rail).width ≡ SPAN_WORDS }
-    requires inside { AllLieIn texts.now plan.now }
-    requires words { length (plan_words plan.now texts.now) < 2 ^ 63 }
+    requires shape { Q.shape_of rail ≡ shape_for (asked_of options.now) }
     requires one { length seats.items ≡ 1 }
     requires numbers { map Q.number_of seats.items ≡ numbers_below (Q.shape_of rail).seats }
     requires puts { All (Q.PutsInto rail) seats.items }
     requires takes { All (Q.TakesFrom rail) seats.items }
     requires fresh { All (λ seat. (Q.made seat ≡ []) × (Q.taken seat ≡ [])) seats.items }
-    ensures counts { IfOk result (λ ran. ran.counts
-        ≡ add_all map_of.empty (plan_words plan.now texts.now)) }
-    ensures shape { IfOk result (λ ran. Q.done_shape ran.done ≡ Q.shape_of rail) }
-    ensures order { IfOk result (λ ran. places (Q.done_accepted ran.done)
-        ≡ numbers_below (length (Q.done_accepted ran.done))) }
-    ensures trace { IfOk result (λ ran. RunTrace (Q.done_accepted ran.done)
-        workers plan.now texts.now (C.ticks clock.now)) }
-    ensures outcome { IfOk result (λ ran. RetryOutcome
-        (Q.done_accepted ran.done) (Q.done_taken ran.done) (Q.done_left ran.done)) }
+    ensures counts { IfOk result (λ ran. ran.counts ≡ counts_of_all texts.now) }
+    ensures queue { IfOk result (λ ran.
+        IsQueueOf (asked_of options.now) texts.now (C.ticks clock.now) (record {
+          mode = RetryNew;
+          shape = Q.done_shape ran.done;
+          accepted = Q.done_accepted ran.done;
+          taken = Q.done_taken ran.done;
+          left = Q.done_left ran.done;
+        })) }
     ensures events { IfOk result (λ ran. Spell ran.events.items (Q.done_accepted ran.done)) }
     ensures files { IfOk result (λ ran. All (HasFile (length texts.now)) ran.events.items) }
 {
+    let workers = options.workers;
     let work = run_all(rt, alloc, plan, texts, workers, &rail, seats, clock, gate)?;
     let Work {
         counts,
