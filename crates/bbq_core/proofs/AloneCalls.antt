@@ -48,12 +48,11 @@ goes g n t K J a u ws vs id v (Take (OpenR sp)) h = lone_OpenR g n t K J a u ws 
 goes g n t K J a u ws vs id v (Take (RaiseC sp)) h = lone_RaiseC g n t K J a u ws vs id v sp h
 
 -- a step of a seat alone: it goes on alone, or all seats are at rest and the answer is what one thread is answered
-pub goes_alone : (g : Grid) (n t : ℕ) (ws : List ℕ) (vs : List View) (id : ℕ) (v : View) (p : Phase) → IsWithinLimits g → IsAlone g n t ws vs id p → n < place_span → slice_get vs id ≡ Some v → v.phase ≡ Some p → Goes g n t ws vs id v p
+pub goes_alone : (g : Grid) (n t : ℕ) (ws : List ℕ) (vs : List View) (id : ℕ) (v : View) (p : Phase) → IsWithinLimits g → IsAlone g n t ws vs id p → n ≤ place_span g → slice_get vs id ≡ Some v → v.phase ≡ Some p → Goes g n t ws vs id v p
 goes_alone g n t ws vs id v p limits s room at e =
-    let few = opened_few g s.opened s.passed s.allocated s.reserved ws vs limits s.sound in
-    let total = s.made in
+    let few = opened_few g s.opened s.passed s.allocated s.reserved ws vs limits s.sound (omega (arith, s.made)) in
     goes g n t s.opened s.passed s.allocated s.reserved ws vs id v p
-    record { limits = limits; sound = s.sound; small = omega (arith, limits.blocks_to, limits.seats_to); manned = s.manned; at = at; phase = e; others = s.others; made = s.made; taken = s.taken; knows = s.knows }
+    record { limits = limits; sound = s.sound; small = few; manned = s.manned; at = at; phase = e; others = s.others; made = s.made; taken = s.taken; knows = s.knows }
 
 -- who is at work stays where a seat at rest begins a call
 pub begun_manned : (g : Grid) (K J : ℕ) (ws : List ℕ) (vs : List View) (id : ℕ) (v v' : View) → slice_get vs id ≡ Some v → v.phase ≡ None → IsManned g K J ws vs → IsManned g K J ws (slice_set vs id v')

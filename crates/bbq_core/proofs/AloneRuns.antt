@@ -7,8 +7,7 @@ use Rattle.std.proofs.lemmas.List.{length-replicate, length-set}
 use Rattle.std.proofs.lemmas.Option.{slice_get-get_or}
 use Rattle.std.proofs.Common.{get_or}
 use Rattle.cursor_word.specs.Shape.{Grid, IsWithinLimits}
-use Rattle.cursor_word.specs.Cursor.{place_span}
-use Rattle.rail.specs.Rail.{most_puts}
+use Rattle.cursor_word.specs.Cursor.{most_puts, place_span}
 use Rattle.rail.specs.declared.answer.Answer.{Answer}
 use Rattle.rail.specs.declared.answer.Answer.TheVariants as answer
 use Rattle.bbq_core.specs.declared.phase.Phase.{Phase}
@@ -63,19 +62,19 @@ settles g n t ws vs seat v v' begins (Next p) at ph an kind h = inl record { vie
 settles g n t ws vs seat v v' begins (Done a) at ph an kind h = inr record { view = v'; at = get_set_same vs seat v v' at; rest = ph; answers = subst (AnswersAsOne g n t begins) (sym an) (answers_kind g n t begins a kind h.0) }
 
 -- a turn of the seat
-own_moves : (g : Grid) (n t seat : ℕ) (begins : Start) (w : MachineState) (v : View) (p : Phase) → IsWithinLimits g → n < place_span → IsAlone g n t w.words w.views seat p → OfCall begins (Next p) → slice_get w.views seat ≡ Some v → v.phase ≡ Some p
+own_moves : (g : Grid) (n t seat : ℕ) (begins : Start) (w : MachineState) (v : View) (p : Phase) → IsWithinLimits g → n ≤ place_span g → IsAlone g n t w.words w.views seat p → OfCall begins (Next p) → slice_get w.views seat ≡ Some v → v.phase ≡ Some p
     → Comes g n t seat begins (record { words = words_after g w.words v p; views = slice_set w.views seat (view_after g w.words v p) })
 own_moves g n t seat begins w v p limits room alone kind at e =
     settles g n t (words_after g w.words v p) w.views seat v (view_after g w.words v p) begins (after g p (slice_index w.words (index (want g p v.entry)))) at refl refl (call_stays g begins p _ kind) (goes_alone g n t w.words w.views seat v p limits alone room at e)
 
-own_turn : (g : Grid) (n t seat : ℕ) (begins : Start) (w : MachineState) (v : View) (s : Start) (p : Phase) (ph : Option Phase) → IsWithinLimits g → n < place_span → IsAlone g n t w.words w.views seat p → OfCall begins (Next p) → slice_get w.views seat ≡ Some v → v.phase ≡ ph → ph ≡ Some p
+own_turn : (g : Grid) (n t seat : ℕ) (begins : Start) (w : MachineState) (v : View) (s : Start) (p : Phase) (ph : Option Phase) → IsWithinLimits g → n ≤ place_span g → IsAlone g n t w.words w.views seat p → OfCall begins (Next p) → slice_get w.views seat ≡ Some v → v.phase ≡ ph → ph ≡ Some p
     → (let m = moves g w.words (begun v ph s) (begun v ph s).phase in Comes g n t seat begins (record { words = m.words; views = slice_set w.views seat m.view }))
 own_turn g n t seat begins w v s p None limits room alone kind at e is = cc
 own_turn g n t seat begins w v s p (Some q) limits room alone kind at e is =
     subst (λ (o : Option Phase). (let m = moves g w.words v o in Comes g n t seat begins (record { words = m.words; views = slice_set w.views seat m.view }))) (sym (e ∙ is))
     (own_moves g n t seat begins w v p limits room alone kind at (e ∙ is))
 
-own_step : (g : Grid) (n t seat : ℕ) (begins : Start) (w : MachineState) (s : Start) → IsWithinLimits g → n < place_span → LoneState g n t seat begins w → Comes g n t seat begins (turn g w seat s (slice_get w.views seat))
+own_step : (g : Grid) (n t seat : ℕ) (begins : Start) (w : MachineState) (s : Start) → IsWithinLimits g → n ≤ place_span g → LoneState g n t seat begins w → Comes g n t seat begins (turn g w seat s (slice_get w.views seat))
 own_step g n t seat begins w s limits room l =
     subst (λ (o : Option View). Comes g n t seat begins (turn g w seat s o)) (sym l.at) (own_turn g n t seat begins w l.view s l.phase l.view.phase limits room l.alone l.kind l.at refl l.is)
 
@@ -119,7 +118,7 @@ other_view g n t seat begins w other start.Take (Some u) apart l at =
     inr (other, apart, begins_mid g w other u start.Take at (l.alone.others other u apart at) tt, mid_there _ seat l.view l.phase (other_turn g w seat other start.Take (slice_get w.views other) (λ q. apart (sym q)) ∙ l.at) l.is)
 
 -- one more event
-advances : (g : Grid) (n t seat : ℕ) (begins : Start) (w : MachineState) (o : Option Event) → IsWithinLimits g → n < place_span → LoneState g n t seat begins w → Comes g n t seat begins (stepped g w o) ⊎ Crossed seat (stepped g w o)
+advances : (g : Grid) (n t seat : ℕ) (begins : Start) (w : MachineState) (o : Option Event) → IsWithinLimits g → n ≤ place_span g → LoneState g n t seat begins w → Comes g n t seat begins (stepped g w o) ⊎ Crossed seat (stepped g w o)
 advances g n t seat begins w None limits room l = inl (inl l)
 advances g n t seat begins w (Some e) limits room l =
     ⊎_elim
@@ -128,7 +127,7 @@ advances g n t seat begins w (Some e) limits room l =
     (cases_eq e.seat seat)
 
 -- the first step of a call that is begun where all seats are at rest
-begins_lone : (g : Grid) (n t seat : ℕ) (w : MachineState) (v : View) (s : Start) (ph : Option Phase) → IsWithinLimits g → n < place_span → IsStill g n t w.words w.views → slice_get w.views seat ≡ Some v → v.phase ≡ ph → ph ≡ None → BeginsCall s → IsWide g s
+begins_lone : (g : Grid) (n t seat : ℕ) (w : MachineState) (v : View) (s : Start) (ph : Option Phase) → IsWithinLimits g → n ≤ place_span g → IsStill g n t w.words w.views → slice_get w.views seat ≡ Some v → v.phase ≡ ph → ph ≡ None → BeginsCall s → IsWide g s
     → (let m = moves g w.words (begun v ph s) (begun v ph s).phase in Comes g n t seat s (record { words = m.words; views = slice_set w.views seat m.view }))
 begins_lone g n t seat w v s (Some p) limits room still at e none begins wide = cc
 begins_lone g n t seat w v (start.Put entry) None limits room still at e none begins wide =
@@ -141,7 +140,7 @@ begins_lone g n t seat w v start.Take None limits room still at e none begins wi
     (own_moves g n t seat start.Take (record { words = w.words; views = slice_set w.views seat v' }) v' first_take limits room (take_alone g n t w.words w.views seat v still at) tt (get_set_same w.views seat v v' at) refl)
 begins_lone g n t seat w v start.Go None limits room still at e none begins wide = absurd begins
 
-begins_turn : (g : Grid) (n t seat : ℕ) (w : MachineState) (v : View) (s : Start) → IsWithinLimits g → n < place_span → IsStill g n t w.words w.views → slice_get w.views seat ≡ Some v → v.phase ≡ None → BeginsCall s → IsWide g s
+begins_turn : (g : Grid) (n t seat : ℕ) (w : MachineState) (v : View) (s : Start) → IsWithinLimits g → n ≤ place_span g → IsStill g n t w.words w.views → slice_get w.views seat ≡ Some v → v.phase ≡ None → BeginsCall s → IsWide g s
     → Comes g n t seat s (turn g w seat s (slice_get w.views seat))
 begins_turn g n t seat w v s limits room still at rest begins wide =
     subst (λ (o : Option View). Comes g n t seat s (turn g w seat s o)) (sym at) (begins_lone g n t seat w v s v.phase limits room still at refl rest begins wide)
@@ -178,7 +177,7 @@ pub not_mid : (ph : Option Phase) → ph ≡ None → IsMidCall ph → ⊥
 not_mid None e m = m
 not_mid (Some p) e m = cc
 
-module _ (g : Grid) (events : List Event) (limits : IsWithinLimits g) (suits : AllByRecursion (Suits g) events) (few : length events < most_puts) where
+module _ (g : Grid) (events : List Event) (limits : IsWithinLimits g) (suits : AllByRecursion (Suits g) events) (few : length events < most_puts g) where
   -- the view of a seat of the queue
   view_at : (n seat : ℕ) → seat < g.seats → (v : View) × (slice_get (moment g events n).views seat ≡ Some v)
   view_at n seat l = (get_or (moment g events n).views seat (resting g), slice_get-get_or (moment g events n).views seat (resting g) (omega (arith, moment_seats g events n)))

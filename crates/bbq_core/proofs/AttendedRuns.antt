@@ -6,8 +6,8 @@ use Rattle.std.proofs.lemmas.Bool.{cases_lt}
 use Rattle.std.proofs.lemmas.List.Folds.{sum_by-replicate}
 use Rattle.std.proofs.Math.Nat.{mod_self, mod-eq_of_lt, mul-le-mul_left}
 use Rattle.cursor_word.specs.Shape.{Grid, IsWithinLimits}
-use Rattle.cursor_word.specs.Cursor.{place_span}
-use Rattle.rail.specs.Rail.{most_puts}
+use Rattle.cursor_word.specs.Cursor.{most_block, most_puts, place_span}
+use Rattle.cursor_word.proofs.Places.{most_puts_to}
 use Rattle.bbq_core.specs.declared.phase.Phase.{Phase}
 use Rattle.bbq_core.specs.declared.event.Event.{Event}
 use Rattle.bbq_core.specs.declared.event.Start.{Start}
@@ -28,26 +28,23 @@ use Rattle.bbq_core.proofs.Schedules.{run_next, stepped}
 use Rattle.bbq_core.proofs.Attends.{attended, attends_at}
 use Rattle.bbq_core.proofs.AloneCalls.{begun_manned}
 
-small : (g : Grid) (K J a t : ℕ) (ws : List ℕ) (vs : List View) → IsWithinLimits g → IsSoundAt g K J a t ws vs → made_total vs < place_span → K < 2 ^ 47
-small g K J a t ws vs limits s room = omega (arith, opened_few g K J a t ws vs limits s, limits.blocks_to, limits.seats_to)
-
 -- a step keeps the invariant, with who is at work
-pub attends : (g : Grid) (ws : List ℕ) (vs : List View) (id : ℕ) (v : View) (p : Phase) → IsWithinLimits g → IsAttended g ws vs → made_total vs < place_span → slice_get vs id ≡ Some v → v.phase ≡ Some p
+pub attends : (g : Grid) (ws : List ℕ) (vs : List View) (id : ℕ) (v : View) (p : Phase) → IsWithinLimits g → IsAttended g ws vs → made_total vs ≤ place_span g → slice_get vs id ≡ Some v → v.phase ≡ Some p
     → IsAttended g (words_after g ws v p) (slice_set vs id (view_after g ws v p))
-attends g ws vs id v p limits s room at e = attends_at g s.opened s.passed s.allocated s.reserved ws vs id v p limits s.sound (small g s.opened s.passed s.allocated s.reserved ws vs limits s.sound room) s.manned at e
+attends g ws vs id v p limits s room at e = attends_at g s.opened s.passed s.allocated s.reserved ws vs id v p limits s.sound (opened_few g s.opened s.passed s.allocated s.reserved ws vs limits s.sound room) s.manned at e
 
 abbrev Attended_turn : Grid → MachineState → ℕ → Scene → Type 0
 Attended_turn g w id t = IsAttended g t.words (slice_set w.views id t.view)
 
 -- a call that begins, and its first step
-first_step : (g : Grid) (w : MachineState) (id : ℕ) (v v' : View) (p : Phase) → IsWithinLimits g → (s : IsAttended g w.words w.views) → made_total w.views < place_span → slice_get w.views id ≡ Some v → v.phase ≡ None → v'.made ≡ v.made → v'.phase ≡ Some p
+first_step : (g : Grid) (w : MachineState) (id : ℕ) (v v' : View) (p : Phase) → IsWithinLimits g → (s : IsAttended g w.words w.views) → made_total w.views ≤ place_span g → slice_get w.views id ≡ Some v → v.phase ≡ None → v'.made ≡ v.made → v'.phase ≡ Some p
     → IsSoundAt g s.opened s.passed s.allocated s.reserved w.words (slice_set w.views id v') → Attended_turn g w id (moves g w.words v' (Some p))
 first_step g w id v v' p limits s room at rest made e sound =
     let n : made_total (slice_set w.views id v') ≡ made_total w.views = let q = sum_set made_count w.views id v v' at in let z : made_count v' ≡ made_count v = ap (λ l. length l) made in omega arith in
     subst (λ (vs : List View). IsAttended g (words_after g w.words v' p) vs) (set_twice w.views id v' (view_after g w.words v' p))
     (attends g w.words (slice_set w.views id v') id v' p limits (attended g s.opened s.passed s.allocated s.reserved _ _ sound (begun_manned g s.opened s.passed w.words w.views id v v' at rest s.manned)) (omega arith) (get_set_same w.views id v v' at) e)
 
-turns : (g : Grid) (w : MachineState) (id : ℕ) (v : View) (t : Start) (ph : Option Phase) → IsWithinLimits g → IsAttended g w.words w.views → made_total w.views < place_span → slice_get w.views id ≡ Some v → v.phase ≡ ph → IsWide g t
+turns : (g : Grid) (w : MachineState) (id : ℕ) (v : View) (t : Start) (ph : Option Phase) → IsWithinLimits g → IsAttended g w.words w.views → made_total w.views ≤ place_span g → slice_get w.views id ≡ Some v → v.phase ≡ ph → IsWide g t
     → Attended_turn g w id (moves g w.words (begun v ph t) (begun v ph t).phase)
 turns g w id v t (Some p) limits s room at e wide = subst (λ (ph : Option Phase). Attended_turn g w id (moves g w.words v ph)) (sym e) (attends g w.words w.views id v p limits s room at e)
 turns g w id v (start.Put entry) None limits s room at e wide =
@@ -56,12 +53,12 @@ turns g w id v start.Take None limits s room at e wide =
     first_step g w id v (begun v None start.Take) first_take limits s room at e refl refl (begins_take g s.opened s.passed s.allocated s.reserved w.words w.views id v s.sound at e)
 turns g w id v start.Go None limits s room at e wide = subst (λ (ph : Option Phase). Attended_turn g w id (moves g w.words v ph)) (sym e) (subst (λ (vs : List View). IsAttended g w.words vs) (sym (set_again w.views id v at)) s)
 
-turns_any : (g : Grid) (w : MachineState) (id : ℕ) (t : Start) (o : Option View) → IsWithinLimits g → IsAttended g w.words w.views → made_total w.views < place_span → slice_get w.views id ≡ o → IsWide g t
+turns_any : (g : Grid) (w : MachineState) (id : ℕ) (t : Start) (o : Option View) → IsWithinLimits g → IsAttended g w.words w.views → made_total w.views ≤ place_span g → slice_get w.views id ≡ o → IsWide g t
     → (let w' = turn g w id t o in IsAttended g w'.words w'.views)
 turns_any g w id t None limits s room at wide = s
 turns_any g w id t (Some v) limits s room at wide = turns g w id v t v.phase limits s room at refl wide
 
-pub step_attended : (g : Grid) (w : MachineState) (o : Option Event) → IsWithinLimits g → IsAttended g w.words w.views → made_total w.views < place_span → ((e : Event) → o ≡ Some e → Suits g e) → (let w' = stepped g w o in IsAttended g w'.words w'.views)
+pub step_attended : (g : Grid) (w : MachineState) (o : Option Event) → IsWithinLimits g → IsAttended g w.words w.views → made_total w.views ≤ place_span g → ((e : Event) → o ≡ Some e → Suits g e) → (let w' = stepped g w o in IsAttended g w'.words w'.views)
 step_attended g w None limits s room suits = s
 step_attended g w (Some e) limits s room suits = turns_any g w e.seat e.start (slice_get w.views e.seat) limits s room refl (suits e refl).wide
 
@@ -111,10 +108,10 @@ take_most es zero = omega arith
 take_most [] (suc n) = omega arith
 take_most (e ∷ es) (suc n) = omega (arith, take_most es n)
 
-module _ (g : Grid) (events : List Event) (limits : IsWithinLimits g) (suits : AllByRecursion (Suits g) events) (few : length events < most_puts) where
+module _ (g : Grid) (events : List Event) (limits : IsWithinLimits g) (suits : AllByRecursion (Suits g) events) (few : length events < most_puts g) where
   -- few entries are made at each moment
-  pub moment_few : (n : ℕ) → made_total (moment g events n).views < place_span
-  moment_few n = omega (arith, run_more g (start_state g) (take n events), take_most events n, start_total g)
+  pub moment_few : (n : ℕ) → made_total (moment g events n).views ≤ place_span g
+  moment_few n = omega (arith, run_more g (start_state g) (take n events), take_most events n, start_total g, most_puts_to g)
 
   pub moment_attended : (n : ℕ) → (let w = moment g events n in IsAttended g w.words w.views)
   moment_attended zero = start_attended g limits

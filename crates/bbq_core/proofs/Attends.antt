@@ -13,7 +13,7 @@ use Rattle.bbq_core.specs.declared.view.View.{View}
 use Rattle.bbq_core.specs.Machine.{view_after, words_after}
 use Rattle.bbq_core.specs.Blocks.{PutWords, TakeWords, committed_word, consumed_word}
 use Rattle.bbq_core.specs.Sound.{IsSoundAt}
-use Rattle.cursor_word.specs.Cursor.{offset_span}
+use Rattle.cursor_word.specs.Cursor.{most_block, offset_span}
 use Rattle.bbq_core.specs.Manned.{IsAttended, IsManned}
 use Rattle.bbq_core.proofs.Manned.{IsIdle, idle_kept, manned_OpenA, manned_OpenM, manned_OpenR, manned_OpenX, manned_RaiseC, manned_RaiseP, words_up}
 use Rattle.bbq_core.proofs.Facts.{IsPhysical, committed_below, filled_opened, physical}
@@ -65,7 +65,7 @@ raised_consumed g K J t C K' j t' C' h R X R' X' two same same' p p' there other
     let up : J ≤ j = ⊎_elim (λ q. let y = there J q in let z = same J h q in omega arith) (λ q. let y = other J q in omega arith) (cases_eq (J % g.blocks) (h % g.blocks)) in
     ⊎_elim (λ q. let y = there j q in omega arith) (λ q. let y = other j q in omega arith) (cases_eq (j % g.blocks) (h % g.blocks))
 
-idle_next : (g : Grid) (K J a t a' t' : ℕ) (ws : List ℕ) (vs : List View) (id : ℕ) (v : View) (p : Phase) → IsWithinLimits g → IsSoundAt g K J a t ws vs → K < 2 ^ 47 → IsManned g K J ws vs → slice_get vs id ≡ Some v → v.phase ≡ Some p → IsIdle K J p
+idle_next : (g : Grid) (K J a t a' t' : ℕ) (ws : List ℕ) (vs : List View) (id : ℕ) (v : View) (p : Phase) → IsWithinLimits g → IsSoundAt g K J a t ws vs → K ≤ most_block → IsManned g K J ws vs → slice_get vs id ≡ Some v → v.phase ≡ Some p → IsIdle K J p
     → IsSoundAt g K J a' t' (words_after g ws v p) (slice_set vs id (view_after g ws v p)) → IsAttended g (words_after g ws v p) (slice_set vs id (view_after g ws v p))
 idle_next g K J a t a' t' ws vs id v p limits s small m at e idle s' =
     attended g K J a' t' _ _ s' (idle_kept g K J a' t' ws (words_after g ws v p) vs id v (view_after g ws v p) p limits s' at m (words_up g K J a t ws vs id v p limits s small at e) e idle)
@@ -95,7 +95,7 @@ passes_to g K J a t j t' ws vs vs' h limits s r =
     (λ k q. ap (λ (b : ℕ). slice_index ws' (5 + 4 * b)) q ∙ get_or-set_same ws i x 0 long) (λ k q. get_or-set_other ws i _ x 0 (λ z. q (omega arith)))
 
 -- the next block is opened to puts, or was
-opens_next : (g : Grid) (K J a t : ℕ) (ws : List ℕ) (vs : List View) (id : ℕ) (v : View) (full : Cursor) → IsWithinLimits g → IsSoundAt g K J a t ws vs → K < 2 ^ 47 → IsManned g K J ws vs → slice_get vs id ≡ Some v → v.phase ≡ Some (OpenM full)
+opens_next : (g : Grid) (K J a t : ℕ) (ws : List ℕ) (vs : List View) (id : ℕ) (v : View) (full : Cursor) → IsWithinLimits g → IsSoundAt g K J a t ws vs → K ≤ most_block → IsManned g K J ws vs → slice_get vs id ≡ Some v → v.phase ≡ Some (OpenM full)
     → IsAttended g (words_after g ws v (OpenM full)) (slice_set vs id (view_after g ws v (OpenM full)))
 opens_next g K J a t ws vs id v full limits s small m at e =
     let h : ℕ = full.block + 1 in
@@ -116,7 +116,7 @@ opens_next g K J a t ws vs id v full limits s small m at e =
     (cases_lt full.block K)
 
 -- the next block is opened to takes, or was
-passes_next : (g : Grid) (K J a t : ℕ) (ws : List ℕ) (vs : List View) (id : ℕ) (v : View) (sp : Cursor) → IsWithinLimits g → IsSoundAt g K J a t ws vs → K < 2 ^ 47 → IsManned g K J ws vs → slice_get vs id ≡ Some v → v.phase ≡ Some (Take (OpenX sp))
+passes_next : (g : Grid) (K J a t : ℕ) (ws : List ℕ) (vs : List View) (id : ℕ) (v : View) (sp : Cursor) → IsWithinLimits g → IsSoundAt g K J a t ws vs → K ≤ most_block → IsManned g K J ws vs → slice_get vs id ≡ Some v → v.phase ≡ Some (Take (OpenX sp))
     → IsAttended g (words_after g ws v (Take (OpenX sp))) (slice_set vs id (view_after g ws v (Take (OpenX sp))))
 passes_next g K J a t ws vs id v sp limits s small m at e =
     let h : ℕ = sp.block + 1 in
@@ -137,7 +137,7 @@ passes_next g K J a t ws vs id v sp limits s small m at e =
     attended g K (J + 1) a t _ _ s' (manned_OpenX g K J a t ws vs id v sp limits at e (omega arith) m u s'))
     (cases_lt sp.block J)
 
-pub attends_at : (g : Grid) (K J a t : ℕ) (ws : List ℕ) (vs : List View) (id : ℕ) (v : View) (p : Phase) → IsWithinLimits g → IsSoundAt g K J a t ws vs → K < 2 ^ 47 → IsManned g K J ws vs → slice_get vs id ≡ Some v → v.phase ≡ Some p
+pub attends_at : (g : Grid) (K J a t : ℕ) (ws : List ℕ) (vs : List View) (id : ℕ) (v : View) (p : Phase) → IsWithinLimits g → IsSoundAt g K J a t ws vs → K ≤ most_block → IsManned g K J ws vs → slice_get vs id ≡ Some v → v.phase ≡ Some p
     → IsAttended g (words_after g ws v p) (slice_set vs id (view_after g ws v p))
 attends_at g K J a t ws vs id v (HeadP turn first) limits s small m at e = idle_next g K J a t a t ws vs id v (HeadP turn first) limits s small m at e record { allocated = refl; producer = refl; reserved = refl; consumer = refl } (keeps_HeadP g K J a t ws vs id v turn first limits s at e)
 attends_at g K J a t ws vs id v (SeeA turn first head) limits s small m at e = idle_next g K J a t a t ws vs id v (SeeA turn first head) limits s small m at e record { allocated = refl; producer = refl; reserved = refl; consumer = refl } (keeps_SeeA g K J a t ws vs id v turn first head limits s at e)

@@ -25,7 +25,7 @@ use Rattle.std.proofs.lemmas.Nat.{div-mul-add, mod-mul-add, same_from_place}
 use Rattle.std.proofs.lemmas.List.Sums.{sum_by-append, sum_by-cons, sum_by-le-sum_by}
 use Rattle.std.proofs.lemmas.List.{map-append}
 use Rattle.std.specs.List.{sum_by}
-use Rattle.cursor_word.specs.Cursor.{offset_span, place_at}
+use Rattle.cursor_word.specs.Cursor.{most_block, offset_span, place_at}
 use Rattle.bbq_core.proofs.Facts.{one_in}
 use Rattle.bbq_core.proofs.Frames.{words_same}
 use Rattle.bbq_core.proofs.Draws.{IsUp, up_le, word_up}
@@ -88,7 +88,7 @@ get_push (z ∷ xs) x zero y e = inl e
 get_push (z ∷ xs) x (suc i) y e = get_push xs x i y e
 
 -- one added to the committed cursor
-pub keeps_Commit : (g : Grid) (K J a t : ℕ) (ws : List ℕ) (vs : List View) (id : ℕ) (v : View) (at : Cursor) → IsWithinLimits g → IsSoundAt g K J a t ws vs → K < 2 ^ 47 → slice_get vs id ≡ Some v
+pub keeps_Commit : (g : Grid) (K J a t : ℕ) (ws : List ℕ) (vs : List View) (id : ℕ) (v : View) (at : Cursor) → IsWithinLimits g → IsSoundAt g K J a t ws vs → K ≤ most_block → slice_get vs id ≡ Some v
     → v.phase ≡ Some (Commit at) → IsSoundAt g K J a t (words_after g ws v (Commit at)) (slice_set vs id (view_after g ws v (Commit at)))
 keeps_Commit g K J a t ws vs id v at limits s small here e =
     let p : ℕ = place_at g at in

@@ -12,7 +12,7 @@ use Rattle.rail.specs.Items.{IsRising, placed, places}
 use Rattle.bbq_core.specs.declared.phase.Phase.TheVariants.{Take}
 use Rattle.bbq_core.specs.declared.take_phase.TakePhase.TheVariants.{Read, Consume}
 use Rattle.std.specs.List.{sum_by}
-use Rattle.cursor_word.specs.Cursor.{offset_span, place_at}
+use Rattle.cursor_word.specs.Cursor.{most_block, offset_span, place_at}
 use Rattle.bbq_core.specs.declared.view.View.{View}
 use Rattle.bbq_core.specs.declared.op.After.{After}
 use Rattle.bbq_core.specs.declared.op.After.TheVariants.{Next}
@@ -122,7 +122,7 @@ keeps_Read g K J a t ws vs id v at next limits s here e =
     reads g K J a t ws vs id v at next i (Next (Take (Consume at))) w (v.read ++ w ∷ []) s here e tt refl (cur, subst (λ (z : List ℕ). IsMade vs (placed (place_at g at) z)) (sym all) of.made))
 
 -- one added to the consumed cursor
-pub keeps_Consume : (g : Grid) (K J a t : ℕ) (ws : List ℕ) (vs : List View) (id : ℕ) (v : View) (at : Cursor) → IsWithinLimits g → IsSoundAt g K J a t ws vs → K < 2 ^ 47 → slice_get vs id ≡ Some v
+pub keeps_Consume : (g : Grid) (K J a t : ℕ) (ws : List ℕ) (vs : List View) (id : ℕ) (v : View) (at : Cursor) → IsWithinLimits g → IsSoundAt g K J a t ws vs → K ≤ most_block → slice_get vs id ≡ Some v
     → v.phase ≡ Some (Take (Consume at)) → IsSoundAt g K J a t (words_after g ws v (Take (Consume at))) (slice_set vs id (view_after g ws v (Take (Consume at))))
 keeps_Consume g K J a t ws vs id v at limits s small here e =
     let p : ℕ = place_at g at in

@@ -6,7 +6,7 @@ use Rattle.std.proofs.lemmas.Bool.{cases_eq}
 use Rattle.std.proofs.lemmas.Bool.Decides.{nat_tests}
 use Rattle.std.proofs.lemmas.Nat.{mod_below}
 use Rattle.cursor_word.specs.Shape.{Grid, IsWithinLimits}
-use Rattle.cursor_word.specs.Cursor.{offset_span, unpacked}
+use Rattle.cursor_word.specs.Cursor.{most_block, offset_span, unpacked}
 use Rattle.cursor_word.specs.declared.cursor.Cursor.{Cursor}
 use Rattle.rail.specs.declared.entry.Placed.{Placed}
 use Rattle.rail.specs.Items.{IsRising, places}
@@ -31,7 +31,7 @@ use Rattle.bbq_core.proofs.Frames.{filled_grows}
 use Rattle.bbq_core.proofs.Loads.{filled_next, made_below}
 
 -- a cursor's word, and one more
-pub word_up : (w : ℕ) → w / offset_span < 2 ^ 47 → w % offset_span + 1 < offset_span → ((w + 1) % 2 ^ 64 / offset_span ≡ w / offset_span) × ((w + 1) % 2 ^ 64 % offset_span ≡ w % offset_span + 1)
+pub word_up : (w : ℕ) → w / offset_span ≤ most_block → w % offset_span + 1 < offset_span → ((w + 1) % 2 ^ 64 / offset_span ≡ w / offset_span) × ((w + 1) % 2 ^ 64 % offset_span ≡ w % offset_span + 1)
 word_up w block low =
     let w' : (w + 1) % 2 ^ 64 ≡ (w / offset_span) * offset_span + (w % offset_span + 1) = omega arith in
     (ap (λ (k : ℕ). k / offset_span) w' ∙ div-mul-add (w / offset_span) offset_span (w % offset_span + 1) low, ap (λ (k : ℕ). k % offset_span) w' ∙ mod-mul-add (w / offset_span) offset_span (w % offset_span + 1) low)
@@ -78,7 +78,7 @@ offset_fits g K J a t ws vs h limits s le =
     let c = s.counts.adds _ l.to l.near in
     let r = ap (λ (w : ℕ). w % offset_span) e in omega (arith, limits.size_to, limits.seats_to)
 
-pub ups : (g : Grid) (K J a t : ℕ) (ws : List ℕ) (vs : List View) (h : ℕ) → IsWithinLimits g → IsSoundAt g K J a t ws vs → K < 2 ^ 47 → h ≤ K
+pub ups : (g : Grid) (K J a t : ℕ) (ws : List ℕ) (vs : List View) (h : ℕ) → IsWithinLimits g → IsSoundAt g K J a t ws vs → K ≤ most_block → h ≤ K
     → IsUp g h (allocated_word g ws) (allocated_word g (slice_set ws (2 + 4 * (h % g.blocks)) ((slice_index ws (2 + 4 * (h % g.blocks)) + 1) % 2 ^ 64)))
 ups g K J a t ws vs h limits s small le =
     let i : ℕ = 2 + 4 * (h % g.blocks) in
@@ -128,7 +128,7 @@ up_drawn g K a P h A A' M pos u p is less =
     }
 
 -- one added to the allocated cursor, where the block was filled
-draws_none : (g : Grid) (K J a t : ℕ) (ws : List ℕ) (vs : List View) (id : ℕ) (v : View) (turn : ℕ) (first : Cursor) (head : ℕ) → IsWithinLimits g → IsSoundAt g K J a t ws vs → K < 2 ^ 47 → slice_get vs id ≡ Some v
+draws_none : (g : Grid) (K J a t : ℕ) (ws : List ℕ) (vs : List View) (id : ℕ) (v : View) (turn : ℕ) (first : Cursor) (head : ℕ) → IsWithinLimits g → IsSoundAt g K J a t ws vs → K ≤ most_block → slice_get vs id ≡ Some v
     → v.phase ≡ Some (AddA turn first head) → (let w = allocated_word g ws head in g.size ≤ w % offset_span
     → IsSoundAt g K J a t (slice_set ws (2 + 4 * (head % g.blocks)) ((w + 1) % 2 ^ 64)) (slice_set vs id (ended v (filled turn first (unpacked w)) w)))
 draws_none g K J a t ws vs id v turn first head limits s small at e le =
@@ -151,7 +151,7 @@ draws_none g K J a t ws vs id v turn first head limits s small at e le =
     (filled_next g K _ _ _ _ ws' v.made v.entry (turn == 1) (unpacked w) _ (filled_grows g _ _ (unpacked w) (up_le g head _ _ u) (found_filled g K a _ head (physical g ws 2) f.1 is le)))
 
 -- one added to the allocated cursor, where a place was free
-draws_next : (g : Grid) (K J a t : ℕ) (ws : List ℕ) (vs : List View) (id : ℕ) (v : View) (turn : ℕ) (first : Cursor) (head : ℕ) → IsWithinLimits g → IsSoundAt g K J a t ws vs → K < 2 ^ 47 → slice_get vs id ≡ Some v
+draws_next : (g : Grid) (K J a t : ℕ) (ws : List ℕ) (vs : List View) (id : ℕ) (v : View) (turn : ℕ) (first : Cursor) (head : ℕ) → IsWithinLimits g → IsSoundAt g K J a t ws vs → K ≤ most_block → slice_get vs id ≡ Some v
     → v.phase ≡ Some (AddA turn first head) → (let w = allocated_word g ws head in w % offset_span < g.size
     → IsSoundAt g K J (a + 1) t (slice_set ws (2 + 4 * (head % g.blocks)) ((w + 1) % 2 ^ 64)) (slice_set vs id (ended v (Next (Write (unpacked w) 0)) w)))
 draws_next g K J a t ws vs id v turn first head limits s small at e less =
@@ -196,7 +196,7 @@ draws_next g K J a t ws vs id v turn first head limits s small at e less =
     }
 
 -- one added to the allocated cursor: one more place is allocated, or none
-pub keeps_AddA : (g : Grid) (K J a t : ℕ) (ws : List ℕ) (vs : List View) (id : ℕ) (v : View) (turn : ℕ) (first : Cursor) (head : ℕ) → IsWithinLimits g → IsSoundAt g K J a t ws vs → K < 2 ^ 47 → slice_get vs id ≡ Some v
+pub keeps_AddA : (g : Grid) (K J a t : ℕ) (ws : List ℕ) (vs : List View) (id : ℕ) (v : View) (turn : ℕ) (first : Cursor) (head : ℕ) → IsWithinLimits g → IsSoundAt g K J a t ws vs → K ≤ most_block → slice_get vs id ≡ Some v
     → v.phase ≡ Some (AddA turn first head) → (b : ℕ) × (b ≤ a + 1) × IsSoundAt g K J b t (words_after g ws v (AddA turn first head)) (slice_set vs id (view_after g ws v (AddA turn first head)))
 keeps_AddA g K J a t ws vs id v turn first head limits s small at e =
     let w : ℕ = allocated_word g ws head in

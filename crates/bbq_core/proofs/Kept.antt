@@ -7,8 +7,8 @@ use Rattle.std.proofs.lemmas.List.Sums.{sum_by-le}
 use Rattle.std.proofs.lemmas.Option.{slice_get-get_or, slice_get_read}
 use Rattle.std.proofs.Math.Nat.{mul-le-mul_right}
 use Rattle.cursor_word.specs.Shape.{Grid, IsWithinLimits}
-use Rattle.cursor_word.specs.Cursor.{place_span}
-use Rattle.rail.specs.Rail.{most_puts}
+use Rattle.cursor_word.specs.Cursor.{most_puts, place_span}
+use Rattle.cursor_word.proofs.Places.{most_puts_fit}
 use Rattle.bbq_core.specs.declared.phase.Phase.{Phase}
 use Rattle.bbq_core.specs.declared.event.Start.{Start}
 use Rattle.bbq_core.specs.declared.event.Start.TheVariants as start
@@ -26,14 +26,13 @@ abbrev pub state_of : Grid → List ℕ → List View → ShapedState
 state_of g ws vs = record { shape = g; state = record { words = ws; views = vs } }
 
 -- few entries are made
-pub total_few : (g : Grid) (ws : List ℕ) (vs : List View) → IsKept (state_of g ws vs) → made_total vs < place_span
+pub total_few : (g : Grid) (ws : List ℕ) (vs : List View) → IsKept (state_of g ws vs) → made_total vs ≤ place_span g
 total_few g ws vs k =
-    let sum = sum_by-le made_count most_puts vs (λ j d h. k.few j (get_or vs j d) (slice_get-get_or vs j d h)) in
-    let few : length vs ≤ 256 = omega (arith, k.all, k.limits.seats_to) in
-    let m : length vs * most_puts ≤ 256 * most_puts = mul-le-mul_right most_puts few in
-    omega arith
+    let sum = sum_by-le made_count (most_puts g) vs (λ j d h. k.few j (get_or vs j d) (slice_get-get_or vs j d h)) in
+    let all : length vs * most_puts g ≡ g.seats * most_puts g = ap (λ (n : ℕ). n * most_puts g) k.all in
+    omega (arith, most_puts_fit g)
 
-pub ready_begun : (g : Grid) (ws : List ℕ) (vs : List View) (id : ℕ) (v : View) (s : Start) (ph : Option Phase) (p : Phase) → IsWithinLimits g → IsSound g ws vs → made_total vs < place_span → slice_get vs id ≡ Some v → v.phase ≡ ph → IsWide g s
+pub ready_begun : (g : Grid) (ws : List ℕ) (vs : List View) (id : ℕ) (v : View) (s : Start) (ph : Option Phase) (p : Phase) → IsWithinLimits g → IsSound g ws vs → made_total vs ≤ place_span g → slice_get vs id ≡ Some v → v.phase ≡ ph → IsWide g s
     → (begun v ph s).phase ≡ Some p → CanStep g ws (begun v ph s) p
 ready_begun g ws vs id v s (Some q) p l k room at e wide is = can_step g ws vs id v p l k room at is
 ready_begun g ws vs id v (start.Put entry) None p l k room at e wide is =
@@ -48,7 +47,7 @@ ready_begun g ws vs id v start.Go None p l k room at e wide is = can_step g ws v
 pub ready_at_turn : (g : Grid) (ws : List ℕ) (vs : List View) (id : ℕ) (v : View) (s : Start) → IsKept (state_of g ws vs) → slice_get vs id ≡ Some v → IsWide g s → (p : Phase) → (begun v v.phase s).phase ≡ Some p → CanStep g ws (begun v v.phase s) p
 ready_at_turn g ws vs id v s k at wide p is = ready_begun g ws vs id v s v.phase p k.limits k.sound (total_few g ws vs k) at refl wide is
 
-kept_turn : (g : Grid) (ws : List ℕ) (vs : List View) (id : ℕ) (v : View) (s : Start) (t : Scene) → IsKept (state_of g ws vs) → slice_get vs id ≡ Some v → IsWide g s → made_count v < most_puts → turned g ws v s ≡ t
+kept_turn : (g : Grid) (ws : List ℕ) (vs : List View) (id : ℕ) (v : View) (s : Start) (t : Scene) → IsKept (state_of g ws vs) → slice_get vs id ≡ Some v → IsWide g s → made_count v < most_puts g → turned g ws v s ≡ t
     → IsKept (state_of g t.words (slice_set vs id t.view))
 kept_turn g ws vs id v s t k at wide room is = subst (λ (t : Scene). IsKept (state_of g t.words (slice_set vs id t.view))) is
     record {
@@ -59,7 +58,7 @@ kept_turn g ws vs id v s t k at wide room is = subst (λ (t : Scene). IsKept (st
     }
 
 -- after a turn, or where it was refused
-pub kept_after : (g : Grid) (ws ws' : List ℕ) (vs : List View) (id : ℕ) (v v' : View) (s : Start) (r : Result (Unit {0}) AllocError) → IsKept (state_of g ws vs) → slice_get vs id ≡ Some v → IsWide g s → made_count v < most_puts
+pub kept_after : (g : Grid) (ws ws' : List ℕ) (vs : List View) (id : ℕ) (v v' : View) (s : Start) (r : Result (Unit {0}) AllocError) → IsKept (state_of g ws vs) → slice_get vs id ≡ Some v → IsWide g s → made_count v < most_puts g
     → OnOk r (turned g ws v s ≡ record { words = ws'; view = v' }) → OnErr r ((ws' ≡ ws) × (v' ≡ v)) → IsKept (state_of g ws' (slice_set vs id v'))
 kept_after g ws ws' vs id v v' s (Ok x) k at wide room ok err = kept_turn g ws vs id v s record { words = ws'; view = v' } k at wide room ok
 kept_after g ws ws' vs id v v' s (Err x) k at wide room ok err =
@@ -97,10 +96,10 @@ seat_is g ws vs id v k h e = slice_get_read vs g.seats id v (sym k.all) h e
 pub view_is : (s : ShapedState) (seat : ℕ) (v : View) → slice_get s.state.views seat ≡ Some v → view_of s seat ≡ v
 view_is s seat v at = ap (λ (o : Option View). unwrap_or o (resting s.shape)) at
 
-made_in : (g : Grid) (es : List Event) (n id : ℕ) → length es < most_puts → (o : Option View) → slice_get (run g (start_state g) (take n es)).views id ≡ o → made_count (unwrap_or o (resting g)) < most_puts
+made_in : (g : Grid) (es : List Event) (n id : ℕ) → length es < most_puts g → (o : Option View) → slice_get (run g (start_state g) (take n es)).views id ≡ o → made_count (unwrap_or o (resting g)) < most_puts g
 made_in g es n id few None at = omega arith
 made_in g es n id few (Some v) at = let m = made_few g es n id v at in omega arith
 
 -- while few events were done, each seat may make one more
-pub made_below : (g : Grid) (es : List Event) (n id : ℕ) → length es < most_puts → made_count (view_of record { shape = g; state = run g (start_state g) (take n es) } id) < most_puts
+pub made_below : (g : Grid) (es : List Event) (n id : ℕ) → length es < most_puts g → made_count (view_of record { shape = g; state = run g (start_state g) (take n es) } id) < most_puts g
 made_below g es n id few = made_in g es n id few (slice_get (run g (start_state g) (take n es)).views id) refl

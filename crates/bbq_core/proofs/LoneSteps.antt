@@ -1,10 +1,10 @@
 -- A step of a seat that is alone: how it goes on, or comes to rest.
-use Rattle.std.proofs.Common.{◌≡◌, ℕ, ◌+◌, ◌/◌, ◌^◌, ◌<◌, List, length, sym, ap, ◌∙◌, subst, ⊎_elim, arith, []}
+use Rattle.std.proofs.Common.{◌≡◌, ℕ, ◌+◌, ◌/◌, ◌^◌, ◌<◌, ◌≤◌, List, length, sym, ap, ◌∙◌, subst, ⊎_elim, arith, []}
 use Rattle.std.specs.Prelude.{Some, None, slice_get, slice_set, slice_index}
 use Rattle.std.specs.List.{sum_by}
 use Rattle.std.proofs.lemmas.List.{set-get_or}
 use Rattle.cursor_word.specs.Shape.{Grid, IsWithinLimits}
-use Rattle.cursor_word.specs.Cursor.{offset_span}
+use Rattle.cursor_word.specs.Cursor.{most_block, offset_span}
 use Rattle.rail.specs.declared.entry.Placed.{Placed}
 use Rattle.bbq_core.specs.declared.phase.Phase.{Phase}
 use Rattle.bbq_core.specs.declared.op.After.{After}
@@ -26,7 +26,7 @@ use Rattle.bbq_core.proofs.Lone.{only_one, allocated_is, allocated_number, produ
 pub record IsHere (g : Grid) (n t K J a u : ℕ) (ws : List ℕ) (vs : List View) (id : ℕ) (v : View) (p : Phase) : Type 0 where
   pub limits : IsWithinLimits g
   pub sound : IsSoundAt g K J a u ws vs
-  pub small : K < 2 ^ 47
+  pub small : K ≤ most_block
   pub manned : IsManned g K J ws vs
   pub at : slice_get vs id ≡ Some v
   pub phase : v.phase ≡ Some p

@@ -7,7 +7,7 @@ use Rattle.std.proofs.lemmas.Bool.Decides.{eqb_tells, nat_tests}
 use Rattle.std.proofs.lemmas.Nat.{mod_below}
 use Rattle.std.proofs.Math.Nat.{mod-eq_of_lt}
 use Rattle.cursor_word.specs.Shape.{Grid, IsWithinLimits}
-use Rattle.cursor_word.specs.Cursor.{offset_span, packed}
+use Rattle.cursor_word.specs.Cursor.{most_block, offset_span, packed}
 use Rattle.cursor_word.specs.Layout.{entry_index}
 use Rattle.cursor_word.specs.declared.cursor.Cursor.{Cursor}
 use Rattle.bbq_core.specs.declared.phase.Phase.{Phase}
@@ -48,7 +48,7 @@ load_up g ws i = subst (λ (w : List ℕ). AreUp g ws w) (sym (set-get_or ws i 0
 store_up : (g : Grid) (ws : List ℕ) (i x : ℕ) → 2 + 4 * g.blocks ≤ i → AreUp g ws (slice_set ws i x)
 store_up g ws i x le j l = let e = get_or-set_other ws i j x 0 (λ q. omega arith) in omega arith
 
-add_up : (g : Grid) (ws : List ℕ) (i : ℕ) → i < length ws → slice_index ws i / offset_span < 2 ^ 47 → AreUp g ws (slice_set ws i ((slice_index ws i + 1) % 2 ^ 64))
+add_up : (g : Grid) (ws : List ℕ) (i : ℕ) → i < length ws → slice_index ws i / offset_span ≤ most_block → AreUp g ws (slice_set ws i ((slice_index ws i + 1) % 2 ^ 64))
 add_up g ws i long small j l =
     let w : ℕ = slice_index ws i in
     let x : ℕ = (w + 1) % 2 ^ 64 in
@@ -56,7 +56,7 @@ add_up g ws i long small j l =
     ⊎_elim (λ q. let e = ap (λ (n : ℕ). slice_index (slice_set ws i x) n) q.1 ∙ get_or-set_same ws i x 0 long in let k = ap (λ (n : ℕ). slice_index ws n) q.1 in omega arith)
     (λ q. let n : j ≢ i = q.1 in let e = get_or-set_other ws i j x 0 n in omega arith) (eqb_tells j i)
 
-pub words_up : (g : Grid) (K J a t : ℕ) (ws : List ℕ) (vs : List View) (id : ℕ) (v : View) (p : Phase) → IsWithinLimits g → IsSoundAt g K J a t ws vs → K < 2 ^ 47 → slice_get vs id ≡ Some v → v.phase ≡ Some p → AreUp g ws (words_after g ws v p)
+pub words_up : (g : Grid) (K J a t : ℕ) (ws : List ℕ) (vs : List View) (id : ℕ) (v : View) (p : Phase) → IsWithinLimits g → IsSoundAt g K J a t ws vs → K ≤ most_block → slice_get vs id ≡ Some v → v.phase ≡ Some p → AreUp g ws (words_after g ws v p)
 words_up g K J a t ws vs id v (HeadP turn first) limits s small at e = load_up g ws 0
 words_up g K J a t ws vs id v (SeeA turn first head) limits s small at e = load_up g ws (2 + 4 * (head % g.blocks))
 words_up g K J a t ws vs id v (AddA turn first head) limits s small at e =

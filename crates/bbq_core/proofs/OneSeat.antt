@@ -1,5 +1,5 @@
 -- A queue with one seat: each of its calls is done alone.
-use Rattle.std.proofs.Common.{◌≡◌, ℕ, ◌<◌, List, [], ◌∷◌, length, replicate, refl, ap, subst}
+use Rattle.std.proofs.Common.{◌≡◌, ℕ, ◌<◌, ◌≤◌, List, [], ◌∷◌, length, replicate, refl, ap, subst}
 use Rattle.std.specs.Prelude.{Some, None, slice_index}
 use Rattle.cursor_word.specs.Shape.{Grid, IsWithinLimits}
 use Rattle.cursor_word.specs.Cursor.{place_span}
@@ -22,6 +22,6 @@ one_puts g n t ws v entry still wide = put_alone g n t ws (v ∷ []) 0 v entry s
 pub one_takes : (g : Grid) (n t : ℕ) (ws : List ℕ) (v : View) → IsStill g n t ws (v ∷ []) → IsAlone g n t ws (begun v None start.Take ∷ []) 0 first_take
 one_takes g n t ws v still = take_alone g n t ws (v ∷ []) 0 v still refl
 
-pub one_steps : (g : Grid) (n t : ℕ) (ws : List ℕ) (v : View) (p : Phase) → IsWithinLimits g → IsAlone g n t ws (v ∷ []) 0 p → n < place_span → v.phase ≡ Some p
+pub one_steps : (g : Grid) (n t : ℕ) (ws : List ℕ) (v : View) (p : Phase) → IsWithinLimits g → IsAlone g n t ws (v ∷ []) 0 p → n ≤ place_span g → v.phase ≡ Some p
     → GoesOnAlone g n t (words_after g ws v p) (view_after g ws v p ∷ []) 0 (after g p (slice_index ws (index (want g p v.entry))))
 one_steps g n t ws v p limits alone room e = goes_alone g n t ws (v ∷ []) 0 v p limits alone room refl e

@@ -4,7 +4,7 @@ use Rattle.std.specs.Prelude.{Option, Some, None, slice_get, if◌then◌else◌
 use Rattle.std.specs.List.{AllByRecursion}
 use Rattle.std.proofs.lemmas.Bool.{cases_eq, cases_lt}
 use Rattle.cursor_word.specs.Shape.{Grid, IsWithinLimits}
-use Rattle.rail.specs.Rail.{most_puts}
+use Rattle.cursor_word.specs.Cursor.{most_puts}
 use Rattle.rail.specs.declared.answer.Answer.{Answer}
 use Rattle.rail.specs.declared.answer.Answer.TheVariants as answer
 use Rattle.rail.specs.declared.answer.Put.TheVariants as put
@@ -160,7 +160,7 @@ other_or_not g events seat n (suc d) =
     (other_or_not g events seat n d)
 
 -- a call whose answer is that of no lone call was overlapped
-pub overlaps : (g : Grid) (events : List Event) → IsWithinLimits g → AllByRecursion (Suits g) events → length events < most_puts → (i seat : ℕ) (a : Answer) → EndsAt g events i seat a → ((n t : ℕ) (begins : Start) → AnswersAsOne g n t begins (Some a) → ⊥) → IsOverlapped g events seat i
+pub overlaps : (g : Grid) (events : List Event) → IsWithinLimits g → AllByRecursion (Suits g) events → length events < most_puts g → (i seat : ℕ) (a : Answer) → EndsAt g events i seat a → ((n t : ℕ) (begins : Start) → AnswersAsOne g n t begins (Some a) → ⊥) → IsOverlapped g events seat i
 overlaps g events limits suits few i seat a x never =
     let c = call_of g events i seat a x in
     ⊎_elim
@@ -180,8 +180,8 @@ take_busy_never g reason n t start.Take h = by_equal t n (λ b. take.Busy reason
 take_busy_never g reason n t start.Go h = h
 
 -- a Busy answer shows another seat in mid-call at one of the call's moments
-pub put_overlapped : (g : Grid) (events : List Event) → IsWithinLimits g → AllByRecursion (Suits g) events → length events < most_puts → (i seat : ℕ) (reason : Why) → EndsAt g events i seat (answer.Put (put.Busy reason)) → IsOverlapped g events seat i
+pub put_overlapped : (g : Grid) (events : List Event) → IsWithinLimits g → AllByRecursion (Suits g) events → length events < most_puts g → (i seat : ℕ) (reason : Why) → EndsAt g events i seat (answer.Put (put.Busy reason)) → IsOverlapped g events seat i
 put_overlapped g events limits suits few i seat reason x = overlaps g events limits suits few i seat _ x (put_busy_never g reason)
 
-pub take_overlapped : (g : Grid) (events : List Event) → IsWithinLimits g → AllByRecursion (Suits g) events → length events < most_puts → (i seat : ℕ) (reason : Why) → EndsAt g events i seat (answer.Take (take.Busy reason)) → IsOverlapped g events seat i
+pub take_overlapped : (g : Grid) (events : List Event) → IsWithinLimits g → AllByRecursion (Suits g) events → length events < most_puts g → (i seat : ℕ) (reason : Why) → EndsAt g events i seat (answer.Take (take.Busy reason)) → IsOverlapped g events seat i
 take_overlapped g events limits suits few i seat reason x = overlaps g events limits suits few i seat _ x (take_busy_never g reason)

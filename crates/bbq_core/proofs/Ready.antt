@@ -63,11 +63,11 @@ module _ (g : Grid) (K J a t : ℕ) (ws : List ℕ) (vs : List View) (limits : I
   ready v (Take (OpenR sp)) k q wide = record { range = known_in sp q.0.from q.0.known; found = tt; wide = wide; read = tt }
   ready v (Take (RaiseC sp)) k q wide = record { range = known_in sp q.0.from q.0.known; found = tt; wide = wide; read = tt }
 
-pub can_step : (g : Grid) (ws : List ℕ) (vs : List View) (id : ℕ) (v : View) (p : Phase) → IsWithinLimits g → IsSound g ws vs → made_total vs < place_span → slice_get vs id ≡ Some v → v.phase ≡ Some p → CanStep g ws v p
+pub can_step : (g : Grid) (ws : List ℕ) (vs : List View) (id : ℕ) (v : View) (p : Phase) → IsWithinLimits g → IsSound g ws vs → made_total vs ≤ place_span g → slice_get vs id ≡ Some v → v.phase ≡ Some p → CanStep g ws v p
 can_step g ws vs id v p limits s room at e =
-    let few = opened_few g s.opened s.passed s.allocated s.reserved ws vs limits s.at in
+    let few = opened_few g s.opened s.passed s.allocated s.reserved ws vs limits s.at room in
     let f = s.at.each id v at in
     let t = s.at.takes_each id v at in
-    ready g s.opened s.passed s.allocated s.reserved ws vs limits s.at (omega (arith, limits.blocks_to, limits.seats_to)) v p
+    ready g s.opened s.passed s.allocated s.reserved ws vs limits s.at few v p
     (subst (PutKnows g s.opened (slice_index ws 0) (allocated_word g ws) (committed_word g ws) (consumed_word g ws) v.made) e f.phase_fits)
     (subst (TakerKnows g s.passed (slice_index ws 1) (committed_word g ws) (reserved_word g ws) (consumed_word g ws) vs v.read) e t.phase_fits) f.wide

@@ -5,10 +5,9 @@ use Rattle.std.proofs.lemmas.Bool.{cases_lt}
 use Rattle.std.proofs.lemmas.Bool.Decides.{nat_tests}
 use Rattle.std.proofs.lemmas.Nat.{mod_below}
 use Rattle.cursor_word.specs.Shape.{Grid, IsWithinLimits}
-use Rattle.cursor_word.specs.Cursor.{offset_span, place_at, place_span}
+use Rattle.cursor_word.specs.Cursor.{most_puts, offset_span, place_at, place_span}
 use Rattle.cursor_word.specs.Layout.{word_count}
 use Rattle.rail.specs.Items.{IsRising, placed, places}
-use Rattle.rail.specs.Rail.{most_puts}
 use Rattle.rail.specs.declared.entry.Placed.{Placed}
 use Rattle.bbq_core.specs.declared.phase.Phase.{Phase}
 use Rattle.bbq_core.specs.declared.phase.Phase.TheVariants.{Commit}
@@ -29,6 +28,7 @@ use Rattle.std.proofs.lemmas.List.FromFn.{get_or-map-range_with_len, length-rang
 use Rattle.std.proofs.lemmas.List.Folds.{sum_by-replicate}
 use Rattle.std.proofs.Math.Nat.{mod_self, mod-eq_of_lt}
 use Rattle.cursor_word.specs.Layout.{start_at, start_cursor}
+use Rattle.cursor_word.proofs.Places.{most_puts_to}
 use Rattle.bbq_core.specs.declared.event.Start.{Start}
 use Rattle.bbq_core.specs.declared.event.Start.TheVariants as start
 use Rattle.bbq_core.specs.declared.event.Event.{Event}
@@ -74,7 +74,7 @@ begins_take g K J a t ws vs id v s at e =
     record { phase_fits = inl refl; rising = subst IsRising (sym fetch) f.rising; items = λ i item q. grow.items item (f.items i item q); unread = λ q h n. refl }
 
 -- a call that begins, and its first step
-first_step : (g : Grid) (w : MachineState) (id : ℕ) (v v' : View) (p : Phase) → IsWithinLimits g → IsSound g w.words (slice_set w.views id v') → made_total (slice_set w.views id v') < place_span → slice_get w.views id ≡ Some v
+first_step : (g : Grid) (w : MachineState) (id : ℕ) (v v' : View) (p : Phase) → IsWithinLimits g → IsSound g w.words (slice_set w.views id v') → made_total (slice_set w.views id v') ≤ place_span g → slice_get w.views id ≡ Some v
     → v'.phase ≡ Some p → After_turn g w id (moves g w.words v' (Some p))
 first_step g w id v v' p limits s room at e =
     subst (λ (vs : List View). IsSound g (words_after g w.words v' p) vs) (set_twice w.views id v' (view_after g w.words v' p))
@@ -84,7 +84,7 @@ first_step g w id v v' p limits s room at e =
 pub total_same : (vs : List View) (id : ℕ) (v v' : View) → slice_get vs id ≡ Some v → v'.made ≡ v.made → made_total (slice_set vs id v') ≡ made_total vs
 total_same vs id v v' at e = let q = sum_set made_count vs id v v' at in let n = ap (λ (l : List Placed). length l) e in omega arith
 
-pub turns : (g : Grid) (w : MachineState) (id : ℕ) (v : View) (s : Start) (ph : Option Phase) → IsWithinLimits g → IsSound g w.words w.views → made_total w.views < place_span → slice_get w.views id ≡ Some v → v.phase ≡ ph → IsWide g s
+pub turns : (g : Grid) (w : MachineState) (id : ℕ) (v : View) (s : Start) (ph : Option Phase) → IsWithinLimits g → IsSound g w.words w.views → made_total w.views ≤ place_span g → slice_get w.views id ≡ Some v → v.phase ≡ ph → IsWide g s
     → After_turn g w id (moves g w.words (begun v ph s) (begun v ph s).phase)
 turns g w id v s (Some p) l k room at e wide = subst (λ (ph : Option Phase). After_turn g w id (moves g w.words v ph)) (sym e) (keeps g w.words w.views id v p l k room at e)
 turns g w id v (start.Put entry) None l k room at e wide =
@@ -95,13 +95,13 @@ turns g w id v start.Take None l k room at e wide =
     first_step g w id v v' first_take l (sound g k.opened k.passed k.allocated k.reserved _ _ (begins_take g _ _ _ _ w.words w.views id v k.at at e)) (let n = total_same w.views id v v' at refl in omega arith) at refl
 turns g w id v start.Go None l k room at e wide = subst (λ (ph : Option Phase). After_turn g w id (moves g w.words v ph)) (sym e) (subst (λ (vs : List View). IsSound g w.words vs) (sym (set_again w.views id v at)) k)
 
-turns_any : (g : Grid) (w : MachineState) (id : ℕ) (s : Start) (o : Option View) → IsWithinLimits g → IsSound g w.words w.views → made_total w.views < place_span → slice_get w.views id ≡ o → IsWide g s
+turns_any : (g : Grid) (w : MachineState) (id : ℕ) (s : Start) (o : Option View) → IsWithinLimits g → IsSound g w.words w.views → made_total w.views ≤ place_span g → slice_get w.views id ≡ o → IsWide g s
     → (let t = turn g w id s o in IsSound g t.words t.views)
 turns_any g w id s None l k room at wide = k
 turns_any g w id s (Some v) l k room at wide = turns g w id v s v.phase l k room at refl wide
 
 -- an event keeps the invariant
-pub step_sound : (g : Grid) (w : MachineState) (x : Event) → IsWithinLimits g → IsSound g w.words w.views → made_total w.views < place_span → Suits g x → (let t = step g w x in IsSound g t.words t.views)
+pub step_sound : (g : Grid) (w : MachineState) (x : Event) → IsWithinLimits g → IsSound g w.words w.views → made_total w.views ≤ place_span g → Suits g x → (let t = step g w x in IsSound g t.words t.views)
 step_sound g w x l k room suits = turns_any g w x.seat x.start (slice_get w.views x.seat) l k room refl suits.wide
 
 made_more : (g : Grid) (made : List Placed) (entry : List ℕ) (p : Phase) → length (made_after g made entry p) ≤ length made + 1
@@ -127,7 +127,7 @@ pub run_more : (g : Grid) (w : MachineState) (es : List Event) → made_total (r
 run_more g w [] = omega arith
 run_more g w (x ∷ es) = omega (arith, step_more g w x, run_more g (step g w x) es)
 
-pub run_sound : (g : Grid) (w : MachineState) (es : List Event) → IsWithinLimits g → IsSound g w.words w.views → made_total w.views + length es < place_span → AllByRecursion (Suits g) es → (let t = run g w es in IsSound g t.words t.views)
+pub run_sound : (g : Grid) (w : MachineState) (es : List Event) → IsWithinLimits g → IsSound g w.words w.views → made_total w.views + length es ≤ place_span g → AllByRecursion (Suits g) es → (let t = run g w es in IsSound g t.words t.views)
 run_sound g w [] l k room suits = k
 run_sound g w (x ∷ es) l k room suits = run_sound g (step g w x) es l (step_sound g w x l k (omega arith) suits.0) (omega (arith, step_more g w x)) suits.1
 
@@ -234,11 +234,11 @@ pub start_total : (g : Grid) → made_total (start_state g).views ≡ 0
 start_total g = let e = sum_by-replicate made_count g.seats (resting g) in omega (arith, e)
 
 -- the state at a moment of a schedule
-pub moment_sound : (g : Grid) (es : List Event) (n : ℕ) → IsWithinLimits g → AllByRecursion (Suits g) es → length es < most_puts → (let t = run g (start_state g) (take n es) in IsSound g t.words t.views)
-moment_sound g es n l suits few = let p = prefix (Suits g) es n suits in let z = start_total g in run_sound g (start_state g) (take n es) l (start_sound g l) (omega (arith, p.1)) p.0
+pub moment_sound : (g : Grid) (es : List Event) (n : ℕ) → IsWithinLimits g → AllByRecursion (Suits g) es → length es < most_puts g → (let t = run g (start_state g) (take n es) in IsSound g t.words t.views)
+moment_sound g es n l suits few = let p = prefix (Suits g) es n suits in let z = start_total g in run_sound g (start_state g) (take n es) l (start_sound g l) (omega (arith, p.1, most_puts_to g)) p.0
 
-pub moment_total : (g : Grid) (es : List Event) (n : ℕ) → length es < most_puts → made_total (run g (start_state g) (take n es)).views < place_span
-moment_total g es n few = let z = start_total g in let m = run_more g (start_state g) (take n es) in let p = (prefix (λ x. Unit {0}) es n (no_condition es)).1 in omega arith
+pub moment_total : (g : Grid) (es : List Event) (n : ℕ) → length es < most_puts g → made_total (run g (start_state g) (take n es)).views ≤ place_span g
+moment_total g es n few = let z = start_total g in let m = run_more g (start_state g) (take n es) in let p = (prefix (λ x. Unit {0}) es n (no_condition es)).1 in omega (arith, most_puts_to g)
 
 pub dense : (g : Grid) (w : MachineState) → IsSound g w.words w.views → PlacesAreDense g w.views
 dense g w s = record { count = s.allocated; once = s.at.counts.once }
@@ -267,4 +267,4 @@ suits_at g (e ∷ es) (suc i) x a at = suits_at g es i x a.1 at
 
 -- no seat makes more entries than there were events
 pub made_few : (g : Grid) (es : List Event) (n id : ℕ) (v : View) → slice_get (run g (start_state g) (take n es)).views id ≡ Some v → made_count v ≤ length es
-made_few g es n id v at = let z = start_total g in let m = run_more g (start_state g) (take n es) in let o = one_le_sum made_count _ id v at in let p = (prefix (λ x. Unit {0}) es n (no_condition es)).1 in omega arith
+made_few g es n id v at = let z = start_total g in let m = run_more g (start_state g) (take n es) in let o = one_le_sum made_count _ id v at in let p = (prefix (λ x. Unit {0}) es n (no_condition es)).1 in omega (arith, most_puts_to g)

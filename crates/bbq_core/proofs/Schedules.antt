@@ -5,9 +5,8 @@ use Rattle.std.specs.List.{AllByRecursion}
 use Rattle.std.proofs.lemmas.Bool.{cases_eq, cond-false, cond-true, eq-eqb, ne_eqb}
 use Rattle.std.proofs.lemmas.List.{map-append}
 use Rattle.cursor_word.specs.Shape.{Grid, IsWithinLimits}
-use Rattle.cursor_word.specs.Cursor.{unpacked}
+use Rattle.cursor_word.specs.Cursor.{most_puts, unpacked}
 use Rattle.cursor_word.specs.declared.cursor.Cursor.{Cursor}
-use Rattle.rail.specs.Rail.{most_puts}
 use Rattle.rail.specs.declared.answer.Put.TheVariants as put
 use Rattle.rail.specs.declared.answer.Take.TheVariants as take
 use Rattle.rail.specs.declared.answer.Why.{Why}
@@ -188,7 +187,7 @@ pub record LastStep (g : Grid) (events : List Event) (i seat : ℕ) (a : Answer)
   pub shows : ShowsNext (WasFull g events) g before last (Done a)
   pub tells : Tells g (moment g events i) view last.phase (Done a)
 
-module _ (g : Grid) (events : List Event) (limits : IsWithinLimits g) (suits : AllByRecursion (Suits g) events) (few : length events < most_puts) where
+module _ (g : Grid) (events : List Event) (limits : IsWithinLimits g) (suits : AllByRecursion (Suits g) events) (few : length events < most_puts g) where
   pub remembered : (n id : ℕ) (v : View) → slice_get (moment g events n).views id ≡ Some v → Remembers (WasFull g events) (steps_of g events id n) v
   remembered zero id v here = subst (Remembers (WasFull g events) []) (get_replicate g.seats (resting g) id v here) record { told = refl; recalls = tt }
   remembered (suc n) id v here =

@@ -24,11 +24,10 @@ offset_small g K J a t ws vs b limits s h =
     let c = s.counts.adds _ l.to l.near in
     let e = ap (λ (w : ℕ). w % offset_span) (physical g ws 2 _ _ l.same) in omega arith
 
-pub words_small : (g : Grid) (ws : List ℕ) (vs : List View) → IsWithinLimits g → IsSound g ws vs → made_total vs < place_span → WordsAreSmall g ws
+pub words_small : (g : Grid) (ws : List ℕ) (vs : List View) → IsWithinLimits g → IsSound g ws vs → made_total vs ≤ place_span g → WordsAreSmall g ws
 words_small g ws vs limits k room =
     let s = k.at in
-    let few = opened_few g k.opened k.passed k.allocated k.reserved ws vs limits s in
-    let small : k.opened < block_span = omega (arith, limits.blocks_to, limits.seats_to) in
+    let few = opened_few g k.opened k.passed k.allocated k.reserved ws vs limits s room in
     let behind = s.takes.behind in
     record {
       offsets = λ b h. offset_small g k.opened k.passed k.allocated k.reserved ws vs b limits s h;

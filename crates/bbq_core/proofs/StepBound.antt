@@ -4,10 +4,10 @@ use Rattle.std.specs.Prelude.{Bool, true, false, Option, Some, None, if◌then�
 use Rattle.std.specs.List.{AllByRecursion}
 use Rattle.std.proofs.lemmas.List.{length-append}
 use Rattle.cursor_word.specs.Shape.{Grid, IsWithinLimits}
-use Rattle.cursor_word.specs.Cursor.{offset_span, packed, place_span, unpacked}
+use Rattle.cursor_word.specs.Cursor.{most_puts, offset_span, packed, place_span, unpacked}
 use Rattle.cursor_word.specs.declared.cursor.Cursor.{Cursor}
+use Rattle.cursor_word.proofs.Places.{most_puts_to}
 use Rattle.rail.specs.declared.answer.Answer.{Answer}
-use Rattle.rail.specs.Rail.{most_puts}
 use Rattle.bbq_core.specs.declared.phase.Phase.{Phase}
 use Rattle.bbq_core.specs.declared.phase.Phase.TheVariants.{HeadP, SeeA, AddA, Write, Commit, SeeX, SeeR, OpenM, OpenA, RaiseP, Take}
 use Rattle.bbq_core.specs.declared.take_phase.TakePhase.TheVariants.{HeadC, SeeRes, SeeCom, SeeAll, Reserve, Read, Consume, NextCom, OpenX, OpenR, RaiseC}
@@ -122,7 +122,7 @@ moves_fit : (g : Grid) (ws : List ℕ) (b : View) (ph : Option Phase) → b.phas
 moves_fit g ws b None e r fit = fit
 moves_fit g ws b (Some p) e r fit = steps_fit g b p _ e (r p refl) fit
 
-any_fit : (g : Grid) (w : MachineState) (id : ℕ) (s : Start) (o : Option View) → IsWithinLimits g → IsSound g w.words w.views → made_total w.views < place_span → slice_get w.views id ≡ o → IsWide g s → AllFit g w.views
+any_fit : (g : Grid) (w : MachineState) (id : ℕ) (s : Start) (o : Option View) → IsWithinLimits g → IsSound g w.words w.views → made_total w.views ≤ place_span g → slice_get w.views id ≡ o → IsWide g s → AllFit g w.views
     → AllFit g (turn g w id s o).views
 any_fit g w id s None l k room at wide fit = fit
 any_fit g w id s (Some v) l k room at wide fit =
@@ -130,17 +130,17 @@ any_fit g w id s (Some v) l k room at wide fit =
     let mine : StepsFit g (turned g w.words v s).view = moves_fit g w.words b b.phase refl (λ p e. (ready_begun g w.words w.views id v s v.phase p l k room at refl wide e).range) (begun_fits g v v.phase s (fit id v at)) in
     λ j u q. ⊎_elim (λ r. subst (StepsFit g) r.1 mine) (λ r. fit j u r.1) (get_set w.views id j (turned g w.words v s).view u q)
 
-run_fits : (g : Grid) (w : MachineState) (es : List Event) → IsWithinLimits g → IsSound g w.words w.views → made_total w.views + length es < place_span → AllByRecursion (Suits g) es → AllFit g w.views → AllFit g (run g w es).views
+run_fits : (g : Grid) (w : MachineState) (es : List Event) → IsWithinLimits g → IsSound g w.words w.views → made_total w.views + length es ≤ place_span g → AllByRecursion (Suits g) es → AllFit g w.views → AllFit g (run g w es).views
 run_fits g w [] l k room suits fit = fit
 run_fits g w (x ∷ es) l k room suits fit =
     run_fits g (step g w x) es l (step_sound g w x l k (omega arith) suits.0) (omega (arith, step_more g w x)) suits.1 (any_fit g w x.seat x.start (slice_get w.views x.seat) l k (omega arith) refl suits.0.wide fit)
 
 -- at each moment of each schedule
-pub moment_fits : (g : Grid) (es : List Event) (n : ℕ) → IsWithinLimits g → AllByRecursion (Suits g) es → length es < most_puts → AllFit g (run g (start_state g) (take n es)).views
+pub moment_fits : (g : Grid) (es : List Event) (n : ℕ) → IsWithinLimits g → AllByRecursion (Suits g) es → length es < most_puts g → AllFit g (run g (start_state g) (take n es)).views
 moment_fits g es n l suits few =
     let p = prefix (Suits g) es n suits in
     let z = start_total g in
-    run_fits g (start_state g) (take n es) l (start_sound g l) (omega (arith, p.1)) p.0 (λ j u q. subst (StepsFit g) (get_replicate g.seats (resting g) j u q) (omega arith))
+    run_fits g (start_state g) (take n es) l (start_sound g l) (omega (arith, p.1, most_puts_to g)) p.0 (λ j u q. subst (StepsFit g) (get_replicate g.seats (resting g) j u q) (omega arith))
 
 pub rank_falls : (g : Grid) (p next : Phase) (old : ℕ) → IsInRange g p → after g p old ≡ Next next → rank g next < rank g p
 rank_falls g p next old r e = (subst (Leads g (rank g p) (steps_of_phase g p)) e (leads g p old r)).0

@@ -5,7 +5,7 @@ use Rattle.std.proofs.lemmas.Bool.{cases_lt}
 use Rattle.std.proofs.lemmas.Bool.Decides.{nat_tests}
 use Rattle.std.proofs.lemmas.Nat.{mod_below}
 use Rattle.std.proofs.Math.Nat.{mod-mod, mul-le-mul_right}
-use Rattle.cursor_word.specs.Shape.{Grid}
+use Rattle.cursor_word.specs.Shape.{Grid, most_size}
 use Rattle.cursor_word.specs.Cursor.{offset_span, packed, unpacked}
 use Rattle.rail.specs.declared.entry.Placed.{Placed}
 use Rattle.rail.specs.Items.{placed, places}
@@ -66,7 +66,7 @@ reserved_below g K J t C R X h pos same s =
     let z = same _ _ e in omega (arith, f.to)
 
 -- a reserved cursor of an opened block and what is below it
-pub reserved_to : (g : Grid) (K J t C : ℕ) (R X : ℕ → ℕ) (k o : ℕ) → 2 ≤ g.blocks → IsPhysical g R → TakeWords g K J t C R X → g.blocks ≤ k → o ≤ g.size → g.size ≤ 1024 → packed (unpacked (k * offset_span + o)) ≤ R k → (k ≤ J) × (place g k o ≤ t)
+pub reserved_to : (g : Grid) (K J t C : ℕ) (R X : ℕ → ℕ) (k o : ℕ) → 2 ≤ g.blocks → IsPhysical g R → TakeWords g K J t C R X → g.blocks ≤ k → o ≤ g.size → g.size ≤ most_size → packed (unpacked (k * offset_span + o)) ≤ R k → (k ≤ J) × (place g k o ≤ t)
 reserved_to g K J t C R X k o pos same s from le small known =
     let p = repacked (k * offset_span + o) in
     let b = reserved_below g K J t C R X k pos same s in

@@ -2,11 +2,10 @@
 use Rattle.std.specs.Prelude.{◌≡◌, ℕ, ◌+◌, ◌*◌, ◌/◌, ◌%◌, ◌<◌, ◌≤◌, ◌⊎◌, List, Option, Some, None, length, slice_get, slice_index, take, []}
 use Rattle.std.specs.List.{AllByRecursion, sum_by}
 use Rattle.cursor_word.specs.Shape.{Grid, IsWithinLimits}
-use Rattle.cursor_word.specs.Cursor.{offset_span, packed, place_at}
+use Rattle.cursor_word.specs.Cursor.{most_puts, offset_span, packed, place_at}
 use Rattle.cursor_word.specs.Layout.{entry_index, word_count}
 use Rattle.cursor_word.specs.declared.cursor.Cursor.{Cursor}
 use Rattle.rail.specs.declared.entry.Placed.{Placed}
-use Rattle.rail.specs.Rail.{most_puts}
 use Rattle.rail.specs.Items.{IsRising, placed, places}
 use Rattle.bbq_core.specs.declared.phase.Phase.{Phase}
 use Rattle.bbq_core.specs.declared.phase.Phase.TheVariants.{HeadP, SeeA, AddA, Write, Commit, SeeX, SeeR, OpenM, OpenA, RaiseP, Take}
@@ -167,4 +166,4 @@ pub record IsKept (s : ShapedState) : Type 0 where
   pub limits : IsWithinLimits s.shape
   pub sound : IsSound s.shape s.state.words s.state.views
   pub all : length s.state.views ≡ s.shape.seats
-  pub few : (j : ℕ) (u : View) → slice_get s.state.views j ≡ Some u → length u.made ≤ most_puts
+  pub few : (j : ℕ) (u : View) → slice_get s.state.views j ≡ Some u → length u.made ≤ most_puts s.shape

@@ -1,10 +1,10 @@
 ghost use Rattle.std.specs.Prelude.{◌≡◌, ℕ, suc, ◌-◌, ◌^◌, ◌<◌, length, slice_get};
 ghost use Rattle.std.specs.List.{AllByRecursion};
-ghost use Rattle.rail.specs.Rail.{most_puts};
 ghost use Rattle.rail.specs.declared.answer.Put.TheVariants as put;
 ghost use Rattle.rail.specs.declared.answer.Take.TheVariants as take;
 ghost use Rattle.rail.specs.declared.answer.Why.{Why};
 ghost use Rattle.cursor_word.specs.declared.cursor.Cursor.{Cursor};
+ghost use Rattle.cursor_word.specs.Cursor.{most_puts};
 ghost use Rattle.rail.specs.declared.answer.Answer.{Answer};
 ghost use Rattle.rail.specs.declared.answer.Answer.TheVariants as answer;
 ghost use Rattle.bbq_core.specs.declared.view.View.{View};
@@ -19,7 +19,7 @@ use cursor_word::Shape;
 /// In each schedule the steps of each call show why it answers as it does.
 pub fn law_causes(shape: &Shape, events: &[Event])
     requires suits { AllByRecursion (Suits shape.now) events.now }
-    requires few { length events.now < most_puts }
+    requires few { length events.now < most_puts shape.now }
     ensures trail { (seat n : ℕ) (view : View) → slice_get (moment shape.now events.now n).views seat ≡ Some view
         → found_by (steps_of shape.now events.now seat n) ≡ view.trail }
     ensures answered { (seat n : ℕ) (view : View) (a : Answer) → slice_get (moment shape.now events.now n).views seat ≡ Some view

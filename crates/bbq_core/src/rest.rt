@@ -1,6 +1,6 @@
 ghost use Rattle.std.specs.Prelude.{ℕ, ◌<◌, length};
 ghost use Rattle.std.specs.List.{AllByRecursion};
-ghost use Rattle.rail.specs.Rail.{most_puts};
+ghost use Rattle.cursor_word.specs.Cursor.{most_puts};
 ghost use Rattle.bbq_core.specs.declared.event.Start.{Start};
 ghost use Rattle.bbq_core.specs.Machine.{Suits};
 ghost use Rattle.bbq_core.specs.Rest.{AnsweredAsOne, IsCall, IsDoneAlone, IsUnmixed};
@@ -12,7 +12,7 @@ use cursor_word::Shape;
 /// That holds too where other seats have turns, while none of them is in mid-call after the call's first step and before its last.
 pub fn law_rest(shape: &Shape, events: &[Event])
     requires suits { AllByRecursion (Suits shape.now) events.now }
-    requires few { length events.now < most_puts }
+    requires few { length events.now < most_puts shape.now }
     ensures alone { (seat n m : ℕ) (begins : Start) → IsCall shape.now events.now seat n m begins
         → IsDoneAlone shape.now events.now seat n m → AnsweredAsOne shape.now events.now seat n m begins }
     ensures unmixed { (seat n m : ℕ) (begins : Start) → IsCall shape.now events.now seat n m begins

@@ -1,7 +1,7 @@
 ghost use Rattle.std.specs.Prelude.{◌≡◌, ℕ, ◌<◌, ◌↔◌, IsNone, IfSome, IfOk, IsTrue, Option, Some, None, OnOk, OnErr, length, map, replicate, slice_index};
 ghost use Rattle.std.specs.List.{range_with_len};
-ghost use Rattle.rail.specs.Rail.{most_puts};
 ghost use Rattle.cursor_word.specs.Layout.{start_at, word_count};
+ghost use Rattle.cursor_word.specs.Cursor.{most_puts};
 ghost use Rattle.bbq_core.specs.declared.phase.Phase.{Phase};
 ghost use Rattle.bbq_core.specs.Machine.{Suits, begun, is_mid_call, resting, start_state, step, turned, view_of};
 ghost use Rattle.bbq_core.specs.Sound.{CanStep};
@@ -52,7 +52,7 @@ impl State {
     /// One event. Memory is taken before the step.
     pub fn step(&mut self, event: &Event) -> Result<(), AllocError>
         requires suits { Suits self.old.shape event.now }
-        requires room { length (view_of self.old event.now.seat).made < most_puts }
+        requires room { length (view_of self.old event.now.seat).made < most_puts self.old.shape }
         ensures shape { self.new.shape ≡ self.old.shape }
         ensures step { OnOk result (self.new.state ≡ step self.old.shape self.old.state event.now) }
         ensures refused { OnErr result (self.new ≡ self.old) }

@@ -1,11 +1,11 @@
 -- Places and the cursors at which they lie.
-use Rattle.std.proofs.Common.{◌≡◌, ℕ, ◌+◌, ◌-◌, ◌*◌, ◌/◌, ◌%◌, ◌<◌, ◌≤◌, refl, sym, ap, ◌∙◌, inl, inr, ⊎_elim, arith}
+use Rattle.std.proofs.Common.{◌≡◌, ℕ, ◌+◌, ◌-◌, ◌*◌, ◌/◌, ◌%◌, ◌^◌, ◌<◌, ◌≤◌, refl, sym, ap, ◌∙◌, inl, inr, ⊎_elim, arith}
 use Rattle.std.proofs.lemmas.Nat.{div-mul-add, mod-mul-add, div-add-mod', le-div, mod_below, same_from_place}
-use Rattle.std.proofs.Math.Nat.{div-le_self, div-mul-le_self, mul-le-mul_right}
+use Rattle.std.proofs.Math.Nat.{div-le_of_le-mul, div-le_self, div-mul-le_self, mul-le-mul_right}
 use Rattle.std.proofs.lemmas.Bool.{cases_eq, cases_lt, cases_order}
 use Rattle.cursor_word.specs.Shape.{Grid, IsWithinLimits}
 use Rattle.cursor_word.specs.declared.cursor.Cursor.{Cursor}
-use Rattle.cursor_word.specs.Cursor.{HasPlace, IsBefore, cursor, cursor_of, first_of, low, most_block, place_at, place_span}
+use Rattle.cursor_word.specs.Cursor.{HasPlace, IsBefore, cursor, cursor_of, first_of, low, block_room, most_block, most_puts, place_at, place_span}
 
 pub place_of_cursor : (g : Grid) (p : ℕ) → place_at g (cursor_of g p) ≡ p
 place_of_cursor g p = let e = div-add-mod' p g.size in let b : g.blocks + p / g.size - g.blocks ≡ p / g.size = omega arith in ap (λ (n : ℕ). n * g.size + p % g.size) b ∙ e
@@ -23,11 +23,24 @@ block_of_place_from g p = omega arith
 pub offset_of_place : (g : Grid) (p : ℕ) → IsWithinLimits g → (cursor_of g p).offset < g.size
 offset_of_place g p l = mod_below p g.size (let s = l.size_from in omega arith)
 
-pub block_of_place_to : (g : Grid) (p : ℕ) → IsWithinLimits g → p < place_span → (cursor_of g p).block + 1 ≤ most_block
-block_of_place_to g p l h = let b = l.blocks_to in let q = div-le_self p g.size in omega arith
+pub block_of_place_to : (g : Grid) (p : ℕ) → IsWithinLimits g → p ≤ place_span g → (cursor_of g p).block + 1 ≤ most_block
+block_of_place_to g p l h =
+    let b = l.blocks_to in
+    let q : p / g.size ≤ block_room = div-le_of_le-mul g.size (omega (arith, h)) in
+    omega arith
 
-pub has_place : (g : Grid) (p : ℕ) → IsWithinLimits g → p < place_span → HasPlace g (cursor_of g p)
+pub has_place : (g : Grid) (p : ℕ) → IsWithinLimits g → p ≤ place_span g → HasPlace g (cursor_of g p)
 has_place g p l h = record { from_first = block_of_place_from g p; block_fits = let b = block_of_place_to g p l h in omega arith; in_block = offset_of_place g p l }
+
+-- what all seats put has a place
+pub most_puts_fit : (g : Grid) → g.seats * most_puts g ≤ place_span g
+most_puts_fit g = omega (arith, div-mul-le_self (place_span g) g.seats)
+
+pub most_puts_from : (g : Grid) → IsWithinLimits g → 2 ^ 32 ≤ most_puts g
+most_puts_from g l = le-div (2 ^ 32) (place_span g) g.seats (omega (arith, l.seats_from)) (omega (arith, l.seats_to, l.size_from))
+
+pub most_puts_to : (g : Grid) → most_puts g ≤ place_span g
+most_puts_to g = div-le_self (place_span g) g.seats
 
 -- two places that are one have one cursor
 pub same_place : (g : Grid) (c d : Cursor) → g.blocks ≤ c.block → g.blocks ≤ d.block → c.offset < g.size → d.offset < g.size → place_at g c ≡ place_at g d → (c.block ≡ d.block) × (c.offset ≡ d.offset)

@@ -1,22 +1,30 @@
 -- Cursors, the words that hold them, and places.
-use Rattle.std.specs.Prelude.{◌≡◌, ℕ, ◌+◌, ◌-◌, ◌*◌, ◌/◌, ◌%◌, ◌<◌, ◌≤◌, ◌⊎◌, if◌then◌else◌, ◌==◌}
+use Rattle.std.specs.Prelude.{◌≡◌, ℕ, ◌+◌, ◌-◌, ◌*◌, ◌/◌, ◌%◌, ◌^◌, ◌<◌, ◌≤◌, ◌⊎◌, if◌then◌else◌, ◌==◌}
 use Rattle.cursor_word.specs.declared.cursor.Cursor.{Cursor}
 use Rattle.cursor_word.specs.Shape.{Grid}
 
--- a word has the offset in its lower 16 bits and the block number in its upper 48
+-- a word has the offset in its lower 20 bits and the block number in its upper 44
 abbrev pub offset_span : ℕ
-offset_span = 65536
+offset_span = 2 ^ 20
 
 abbrev pub block_span : ℕ
-block_span = 281474976710656
+block_span = 2 ^ 44
+
+-- how many blocks the seats of a queue may fill together
+abbrev pub block_room : ℕ
+block_room = 2 ^ 42
 
 -- all places of a queue are below this
-abbrev pub place_span : ℕ
-place_span = 1099511627776
+abbrev pub place_span : Grid → ℕ
+place_span g = block_room * g.size
+
+-- a seat has so many entries accepted at most
+abbrev pub most_puts : Grid → ℕ
+most_puts g = place_span g / g.seats
 
 -- no call of a queue meets a block number above this
 abbrev pub most_block : ℕ
-most_block = 8796093022208
+most_block = 2 ^ 43
 
 abbrev pub cursor : ℕ → ℕ → Cursor
 cursor block offset = record { block = block; offset = offset }

@@ -15,13 +15,13 @@ abbrev pub most_blocks : ℕ
 most_blocks = 256
 
 abbrev pub most_size : ℕ
-most_size = 1024
+most_size = 65536
 
 abbrev pub most_width : ℕ
 most_width = 8
 
 abbrev pub most_seats : ℕ
-most_seats = 256
+most_seats = 1024
 
 pub record IsWithinLimits (g : Grid) : Type 0 where
   pub blocks_from : least_blocks ≤ g.blocks

@@ -1,11 +1,11 @@
 ghost use Rattle.std.specs.Prelude.{◌≡◌, ℕ, ◌+◌, ◌-◌, ◌*◌, ◌/◌, ◌%◌, ◌^◌, ◌<◌, ◌≤◌};
 ghost use Rattle.std.specs.Ordering.{nat_cmp};
-ghost use Rattle.cursor_word.specs.Cursor.{Fits, HasPlace, cursor_of, packed, place_at, place_span, unpacked};
+ghost use Rattle.cursor_word.specs.Cursor.{Fits, HasPlace, block_span, cursor_of, packed, place_at, unpacked};
 
 use crate::shape::Shape;
 
 /// A word has the offset below this and the block number above.
-const OFFSET_SPAN: u64 = 65536;
+const OFFSET_SPAN: u64 = 1 << 20;
 
 /// A block number and an offset in it, compared in this order.
 #[derive(Clone, Copy, Debug, PartialEq, Eq, PartialOrd, Ord)]
@@ -48,7 +48,7 @@ impl Cursor {
 
     /// Where a place lies.
     pub fn at_place(shape: &Shape, place: u64) -> Cursor
-        requires { place < place_span }
+        requires { (cursor_of shape.now place).block < block_span }
         ensures cursor { result ≡ cursor_of shape.now place }
         ensures place { HasPlace shape.now result }
         ensures back { place_at shape.now result ≡ place }

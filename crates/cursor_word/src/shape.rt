@@ -1,19 +1,22 @@
-ghost use Rattle.std.specs.Prelude.{◌≡◌, ℕ, ◌+◌, ◌-◌, ◌*◌, ◌<◌, ◌≤◌, ◌⊎◌, IfOk, ◌↔◌, Ok, Err};
+ghost use Rattle.std.specs.Prelude.{◌≡◌, ℕ, ◌+◌, ◌-◌, ◌*◌, ◌^◌, ◌<◌, ◌≤◌, ◌⊎◌, IfOk, ◌↔◌, Ok, Err};
 ghost use Rattle.cursor_word.specs.Shape.{Grid, IsWithinLimits, least_blocks, most_blocks, most_seats, most_size, most_width};
-ghost use Rattle.cursor_word.specs.Cursor.{low};
+ghost use Rattle.cursor_word.specs.Cursor.{low, most_puts};
 ghost use Rattle.cursor_word.specs.Layout.{IsPart, Part, index_of, word_count};
 
 use std::marker::Model;
 
-const LEAST_BLOCKS: u64 = 2;
+pub const LEAST_BLOCKS: u64 = 2;
 
-const MOST_BLOCKS: u64 = 256;
+pub const MOST_BLOCKS: u64 = 256;
 
-const MOST_SIZE: u64 = 1024;
+pub const MOST_SIZE: u64 = 65536;
 
 const MOST_WIDTH: u64 = 8;
 
-const MOST_SEATS: u64 = 256;
+pub const MOST_SEATS: u64 = 1024;
+
+// How many blocks the seats of a queue may fill together.
+const BLOCK_ROOM: u64 = 1 << 42;
 
 /// Why four numbers are no shape.
 #[derive(Clone, Copy, Debug, PartialEq, Eq)]
@@ -109,6 +112,14 @@ impl Shape {
         ensures apart { (p q : Part) → IsPart self.now p → IsPart self.now q → index_of self.now p ≡ index_of self.now q → p ≡ q }
     {
         2 + 4 * self.blocks + self.blocks * self.size * self.width
+    }
+
+    /// How many entries a seat has accepted at most.
+    pub fn most_puts(&self) -> u64
+        ensures most { result ≡ most_puts self.now }
+        ensures least { 2 ^ 32 ≤ result }
+    {
+        BLOCK_ROOM * self.size / self.seats
     }
 
     /// The first place of the oldest block that is not reused, where so many entries are accepted.

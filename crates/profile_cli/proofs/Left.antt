@@ -14,7 +14,7 @@ use Rattle.profile_cli.specs.Input.IsDue.{done}
 use Rattle.profile_cli.specs.Queue.{ClosedQueue, IsQueueOf}
 use Rattle.profile_cli.specs.Run.{Closes, Ends, IsStopped, Leaves, Reported, RunLeaves, names_by, names_of}
 use Rattle.profile_cli.specs.Usage.{Asked}
-use Rattle.profile_cli.specs.Written.{AreDocuments, OutFaults, Outputs, StoreFaults, Writes}
+use Rattle.profile_cli.specs.Written.{OutFaults, Outputs, StoreFaults, Writes, documents_of}
 use Rattle.profile_cli.proofs.Due.{due_once}
 
 module _ (piece : ℕ) (input : Input) (rose : Type 0) where
@@ -37,7 +37,7 @@ store_same TraceUnwritten n c = cc
 store_same ending n c = omega arith
 
 -- a run that ended before it closed a queue
-pub left_before : (asked : Asked) (files : Option Files) (clock : Option Ticks) (before after : ℕ) (outputs : Outputs) (ending : Ending)
+pub left_before : (asked : Asked) (files : Option Files) (clock : ℕ → Option Ticks) (before after : ℕ) (outputs : Outputs) (ending : Ending)
     → Closes ending None → before ≤ after
     → (texts : List (List ℕ)) × (IsInput (input_of (names_of asked) files texts) × (IsDue asked.piece (input_of (names_of asked) files texts) ending ⊎ StopsReading (input_of (names_of asked) files texts) (Rose before after) ending))
     → Leaves (Ok asked) files (record { queue = None; clock = clock; faults_before = before; faults_after = after; before = outputs; after = outputs }) ending
@@ -83,14 +83,15 @@ module _ (piece : ℕ) (input : Input) (rose : Type 0) (counts : List ℕ) (asks
   closes_behind TooManyPieces queue w = absurd w
 
 -- a run that closed its queue, and then wrote what it could
-pub left_behind : (asked : Asked) (files : Option Files) (clock : Option Ticks) (texts : List (List ℕ)) (old new : ℕ) (before after : Outputs) (ending : Ending) (queue : ClosedQueue) (asks : Files)
+pub left_behind : (asked : Asked) (files : Option Files) (clock : ℕ → Option Ticks) (texts : List (List ℕ)) (old new : ℕ) (before after : Outputs) (ending : Ending) (queue : ClosedQueue)
     → old ≤ new → IsInput (input_of (names_of asked) files texts) × CanRun (input_of (names_of asked) files texts) asked.piece
-    → IsQueueOf asked texts clock queue → AreDocuments asked (names_of asked) queue asks
+    → IsQueueOf asked texts clock queue
     → OutFaults ending before.out_faults after.out_faults → StoreFaults ending before.store_faults after.store_faults
-    → Writes (counts_text_of (counts_of_all texts)) asks before after ending
+    → Writes (counts_text_of (counts_of_all texts)) (documents_of asked (names_of asked) queue) before after ending
     → Leaves (Ok asked) files (record { queue = Some queue; clock = clock; faults_before = old; faults_after = new; before = before; after = after }) ending
-left_behind asked files clock texts old new before after ending queue asks same input is_queue documents out store w =
+left_behind asked files clock texts old new before after ending queue same input is_queue out store w =
     let text = counts_text_of (counts_of_all texts) in
+    let asks = documents_of asked (names_of asked) queue in
     let whole = input_of (names_of asked) files texts in
     let cause = cause_behind asked.piece whole (Rose old new) text asks before after ending input.1 w in (
       texts,
@@ -103,12 +104,12 @@ left_behind asked files clock texts old new before after ending queue asks same 
         store = store;
         closes = closes_behind asked.piece whole (Rose old new) text asks before after ending queue w;
         queue = is_queue;
-        written = (asks, documents, w);
+        written = w;
       },
     )
 
 -- what the command leaves, by its report
-pub reported : (usage is : Result Asked Refusal) (files : Option Files) (report : Reported) (said : Messages × Messages) (queue was : Option ClosedQueue) (clock : Option Ticks) (old new : ℕ) (before after : Outputs) (ending : Ending)
+pub reported : (usage is : Result Asked Refusal) (files : Option Files) (report : Reported) (said : Messages × Messages) (queue was : Option ClosedQueue) (clock : ℕ → Option Ticks) (old new : ℕ) (before after : Outputs) (ending : Ending)
     → usage ≡ is → queue ≡ was → report.status ≡ status_of ending → report.detail ≡ detail_of ending → Says (names_by is) ending said.0 said.1
     → Leaves is files (record { queue = was; clock = clock; faults_before = old; faults_after = new; before = before; after = after }) ending
     → Ends usage files report said (record { queue = queue; clock = clock; faults_before = old; faults_after = new; before = before; after = after })

@@ -1,7 +1,5 @@
 -- A document that was begun and written to.
-use Rattle.std.proofs.Common.{◌≡◌, ℕ, List, [], ◌∷◌, ◌++◌, length, take, refl, Option, Some, None, IfSome, sym, ap, ◌∙◌, inl, inr, subst, arith, append-nil, length-append}
-use Rattle.std.proofs.Math.Seq.{take-append_seam}
-use Rattle.std.specs.Prelude.{Result, Ok, Err, OnErr, IsErrOf, ◌<◌, ◌⊎◌}
+use Rattle.std.proofs.Common.{◌≡◌, ℕ, List, [], ◌∷◌, ◌++◌, length, take, refl, Option, Some, None, IfSome, sym, ap, ◌∙◌, inl, inr, subst}
 use Rattle.flow_io.specs.Flow.{Files, Beside, documents, gained, GainedPart}
 use Rattle.profile_cli.specs.Written.{GainsDocuments, GainsPart}
 
@@ -18,12 +16,3 @@ stored_part old mid new begun kept name text begins part same =
 -- nothing was begun
 pub stored_none : (old new : Option Files) (document : List ℕ × List ℕ) → new ≡ old → GainsPart old new (document ∷ [])
 stored_none old new document same = ([], inl refl, same)
-
--- a prefix of the text was written: a shorter one, or all
-pub stored_prefix : (old : Option Files) (mid new : Option (List ℕ)) (begun kept : Beside) (name text : List ℕ) → IfSome old (λ earlier. (mid ≡ Some []) × (begun ≡ Some (earlier, name))) → (part left : List ℕ) → part ++ left ≡ text → new ≡ gained mid part → kept ≡ begun
-    → GainsPart old (documents new kept) ((name, text) ∷ []) ⊎ GainsDocuments old (documents new kept) ((name, text) ∷ [])
-stored_prefix old mid new begun kept name text begins part [] all grew same =
-    inr (stored old mid new begun kept name text begins (grew ∙ ap (gained mid) (sym (append-nil part) ∙ all)) same)
-stored_prefix old mid new begun kept name text begins part (b ∷ left) all grew same =
-    let size = ap length all in let parts = length-append part (b ∷ left) in
-    inl (stored_part old mid new begun kept name text begins (length part, omega (arith, size, parts), grew ∙ ap (gained mid) (subst (λ (t : List ℕ). part ≡ take (length part) t) all (sym (take-append_seam part (b ∷ left))))) same)

@@ -53,7 +53,7 @@ IsOutcome DropOld shape accepted taken left =
 
 -- the queue of a run over these texts: it has the asked mode and shape, and all that it had accepted
 -- stands in one order, each worker's spans whole and in its order
-pub record IsQueueOf (asked : Asked) (texts : List (List ℕ)) (clock : Option Ticks) (queue : ClosedQueue) : Type 0 where
+pub record IsQueueOf (asked : Asked) (texts : List (List ℕ)) (clock : ℕ → Option Ticks) (queue : ClosedQueue) : Type 0 where
   pub mode : queue.mode ≡ mode_for asked
   pub shape : queue.shape ≡ shape_for asked
   pub order : places queue.accepted ≡ numbers_below (length queue.accepted)

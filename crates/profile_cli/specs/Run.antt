@@ -11,13 +11,13 @@ use Rattle.profile_cli.specs.Input.{CanRun, Input, IsDue, IsInput, StopsReading,
 use Rattle.profile_cli.specs.Messages.{Messages, Says}
 use Rattle.profile_cli.specs.Queue.{ClosedQueue, IsQueueOf}
 use Rattle.profile_cli.specs.Usage.{Asked}
-use Rattle.profile_cli.specs.Written.{AreDocuments, IsKept, OutFaults, Outputs, StoreFaults, Writes}
+use Rattle.profile_cli.specs.Written.{IsKept, OutFaults, Outputs, StoreFaults, Writes, documents_of}
 
 -- the queue that was closed, if any, what the clock tells, and the source's count of faults, the output
 -- and the trace store before and after
 pub record Run : Type 0 where
   pub queue : Option ClosedQueue
-  pub clock : Option Ticks
+  pub clock : ℕ → Option Ticks
   pub faults_before : ℕ
   pub faults_after : ℕ
   pub before : Outputs
@@ -46,8 +46,8 @@ Closes other queue = queue ≡ None
 abbrev pub RunWrites : Asked → Input → Outputs → Outputs → Ending → Option ClosedQueue → Type 0
 RunWrites asked input before after ending None = IsKept before after
 RunWrites asked input before after ending (Some queue) =
-    (asks : Files) × AreDocuments asked input.names queue asks
-    × Writes (counts_text_of (counts_of_all input.texts)) asks before after ending
+    Writes (counts_text_of (counts_of_all input.texts)) (documents_of asked input.names queue)
+    before after ending
 
 -- what a run of this input leaves that ended so
 pub record RunLeaves (asked : Asked) (input : Input) (run : Run) (ending : Ending) : Type 0 where

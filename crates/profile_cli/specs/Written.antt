@@ -4,6 +4,7 @@ use Rattle.flow_io.specs.Flow.{Files, Rose, gained, GainedPart}
 use Rattle.rail.specs.declared.entry.Placed.{Placed}
 use Rattle.span_words.specs.declared.span.SpanEvent.{SpanEvent}
 use Rattle.span_words.specs.Span.{spelling}
+use Rattle.span_recorder.specs.Events.{events_of}
 use Rattle.trace_json.specs.Trace.{trace_text}
 use Rattle.profile_cli.specs.declared.ending.Ending.{Ending}
 use Rattle.profile_cli.specs.declared.ending.Ending.TheVariants.{Done, OutOfMemory, CountsUnwritten, TraceUnwritten}
@@ -27,11 +28,11 @@ Spell events entries = map spelling events ≡ map (λ (i : Placed). i.words) en
 abbrev pub asks_of : Results → Files
 asks_of results = (results.trace.now, trace_text (bytes_of results.names.now) results.accepted results.events.now) ∷ []
 
--- the documents that are asked of a closed queue, where the texts have these names: the trace
-pub record AreDocuments (asked : Asked) (names : List (List ℕ)) (queue : ClosedQueue) (asks : Files) : Type 0 where
-  pub events : List SpanEvent
-  pub spell : Spell events (listed queue)
-  pub are : asks ≡ (asked.trace, trace_text names (length queue.accepted) events) ∷ []
+-- the documents that are asked of a closed queue, where the texts have these names: the trace of what
+-- it lists, with how many spans were accepted
+abbrev pub documents_of : Asked → List (List ℕ) → ClosedQueue → Files
+documents_of asked names queue =
+    (asked.trace, trace_text names (length queue.accepted) (events_of (listed queue))) ∷ []
 
 -- the store has its earlier documents, and these behind them
 abbrev pub GainsDocuments : Option Files → Option Files → Files → Type 0
@@ -80,7 +81,7 @@ Writes counts asks before after Done = IsWhole counts asks before after
 Writes counts asks before after CountsUnwritten = IsUncounted counts before after
 Writes counts asks before after TraceUnwritten = IsHalted counts asks before after
 Writes counts asks before after OutOfMemory = IsKept before after
-    ⊎ (IsHalted counts asks before after ⊎ IsWhole counts asks before after)
+    ⊎ IsHalted counts asks before after
 Writes counts asks before after other = ⊥
 
 -- the output's count of faults never falls, and rises where the counts can't be written

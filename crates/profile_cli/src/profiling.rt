@@ -49,7 +49,7 @@ pub fn profile<
         (record {
           queue = queue_of R.Retry.done_shape R.Retry.done_accepted R.Retry.done_taken
               R.Retry.done_left result.closed;
-          clock = C.ticks clock.now;
+          clock = λ _. C.ticks clock.now;
           faults_before = F.faults files.old;
           faults_after = F.faults files.new;
           before = record {

@@ -1,6 +1,7 @@
 ghost use Rattle.std.specs.Prelude.{◌≡◌, ◌≤◌, [], false, length, map, sum_by, IfOk};
 ghost use Rattle.std.specs.List.{All};
 ghost use Rattle.rail.specs.Outcome.{numbers_below};
+ghost use Rattle.span_recorder.specs.Events.{events_of};
 ghost use Rattle.trace_json.specs.Trace.{HasFile};
 ghost use Rattle.word_text.specs.Counts.{counts_of_all};
 ghost use Rattle.word_text.specs.Pieces.{plan_of};
@@ -47,14 +48,15 @@ pub fn run_retry_new<X: Threads + Wait + Sync, C: Clock, G: Gate, R: Rails>(
     requires size { sum_by length texts.now ≤ input_limit }
     ensures counts { IfOk result (λ ran. ran.counts ≡ counts_of_all texts.now) }
     ensures queue { IfOk result (λ ran.
-        IsQueueOf (asked_of options.now) texts.now (C.ticks clock.now) (record {
+        IsQueueOf (asked_of options.now) texts.now (λ _. C.ticks clock.now) (record {
           mode = RetryNew;
           shape = R.Retry.done_shape ran.done;
           accepted = R.Retry.done_accepted ran.done;
           taken = R.Retry.done_taken ran.done;
           left = R.Retry.done_left ran.done;
         })) }
-    ensures events { IfOk result (λ ran. Spell ran.events.items (R.Retry.done_accepted ran.done)) }
+    ensures events { IfOk result (λ ran.
+        ran.events.items ≡ events_of (R.Retry.done_accepted ran.done)) }
     ensures files { IfOk result (λ ran. All (HasFile (length texts.now)) ran.events.items) }
 {
     let Ok(shape) = Shape::new(options.blocks, options.size, SPAN_WORDS as u64, 1) else {
@@ -88,14 +90,15 @@ fn run_through<X: Threads + Wait + Sync, Q: Rail, C: Clock, G: Gate>(
     requires fresh { All (λ seat. (Q.made seat ≡ []) × (Q.taken seat ≡ [])) seats.items }
     ensures counts { IfOk result (λ ran. ran.counts ≡ counts_of_all texts.now) }
     ensures queue { IfOk result (λ ran.
-        IsQueueOf (asked_of options.now) texts.now (C.ticks clock.now) (record {
+        IsQueueOf (asked_of options.now) texts.now (λ _. C.ticks clock.now) (record {
           mode = RetryNew;
           shape = Q.done_shape ran.done;
           accepted = Q.done_accepted ran.done;
           taken = Q.done_taken ran.done;
           left = Q.done_left ran.done;
         })) }
-    ensures events { IfOk result (λ ran. Spell ran.events.items (Q.done_accepted ran.done)) }
+    ensures events { IfOk result (λ ran.
+        ran.events.items ≡ events_of (Q.done_accepted ran.done)) }
     ensures files { IfOk result (λ ran. All (HasFile (length texts.now)) ran.events.items) }
 {
     let workers = options.workers;

@@ -1,4 +1,4 @@
-ghost use Rattle.std.specs.Prelude.{◌≡◌, ◌∷◌, [], ◌≤◌, ◌⊎◌, length, OnOk, IsErrOf};
+ghost use Rattle.std.specs.Prelude.{◌≡◌, ◌∷◌, [], ◌≤◌, ◌⊎◌, length, OnOk, OnErr, IsErrOf};
 ghost use Rattle.std.specs.List.{All};
 ghost use Rattle.flow_io.specs.Flow.{Rose, documents};
 ghost use Rattle.trace_json.specs.Trace.{HasFile, trace_text};
@@ -34,16 +34,10 @@ fn store_trace<T: TraceStore>(
         (documents (T.told trace.old) (T.beside trace.old))
         (documents (T.told trace.new) (T.beside trace.new))
         (asks_of results.now)) }
-    ensures fault { IsErrOf result TraceError.Fault → GainsPart
+    ensures part { OnErr result (GainsPart
         (documents (T.told trace.old) (T.beside trace.old))
         (documents (T.told trace.new) (T.beside trace.new))
-        (asks_of results.now) }
-    ensures memory { IsErrOf result TraceError.Memory → GainsPart
-        (documents (T.told trace.old) (T.beside trace.old))
-        (documents (T.told trace.new) (T.beside trace.new)) (asks_of results.now)
-        ⊎ GainsDocuments
-        (documents (T.told trace.old) (T.beside trace.old))
-        (documents (T.told trace.new) (T.beside trace.new)) (asks_of results.now) }
+        (asks_of results.now)) }
     ensures cause { IsErrOf result TraceError.Fault
         → Rose (T.faults trace.old) (T.faults trace.new) }
     ensures later { T.faults trace.old ≤ T.faults trace.new }

@@ -1,5 +1,5 @@
 -- The one seat of a queue that keeps its entries in a list.
-use Rattle.std.specs.Prelude.{◌≡◌, ◌+◌, ◌≤◌, ◌<◌, List, length, take}
+use Rattle.std.specs.Prelude.{◌≡◌, ◌+◌, ◌≤◌, List, length, take}
 use Rattle.std.specs.List.{All}
 use Rattle.cursor_word.specs.Shape.{Grid}
 use Rattle.cursor_word.specs.Cursor.{place_span}
@@ -19,4 +19,4 @@ pub record IsSeatOf (g : Grid) (seat : ListSeat) : Type 0 where
   pub wide : All (λ (i : Placed). length i.words ≡ g.width) seat.made.items
   pub room : seat.most ≤ length seat.made.items + seat.made.spare
   pub within : length seat.made.items ≤ seat.most
-  pub few : seat.most < place_span
+  pub few : seat.most ≤ place_span g

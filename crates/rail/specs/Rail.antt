@@ -11,10 +11,6 @@ use Rattle.rail.specs.declared.answer.Take.TheVariants as take
 use Rattle.rail.specs.Items.{placed, places}
 use Rattle.rail.specs.Told.{Shows}
 
--- a seat puts fewer entries than this
-abbrev pub most_puts : ℕ
-most_puts = 4294967295
-
 -- an item at the end, at a place beyond all earlier ones
 pub record Gains (old new : List Placed) (item : Placed) : Type 0 where
   pub at_end : new ≡ old ++ item ∷ []

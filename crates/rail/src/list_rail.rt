@@ -49,7 +49,7 @@ impl ListRail {
         most: usize,
     ) -> Result<(ListRail, ListSeat), AllocError>
         requires one { shape.seats ≡ 1 }
-        requires few { most < place_span }
+        requires few { most ≤ place_span shape }
         ensures shape { IfOk result (λ r. r.0.shape ≡ shape) }
         ensures seat { IfOk result (λ r. IsSeatOf shape r.1) }
         ensures fresh { IfOk result (λ r. (r.1.made.items ≡ []) × (r.1.taken ≡ 0)) }
@@ -133,7 +133,7 @@ fn is_full(shape: &Shape, accepted: u64, taken: u64) -> bool
 
 // The last block in which so many entries lie.
 fn last_block(shape: &Shape, accepted: u64) -> u64
-    requires { accepted < place_span }
+    requires { accepted ≤ place_span shape.now }
     ensures filled { accepted % shape.now.size ≡ 0 → result ≡ shape.now.blocks + accepted / shape.now.size - 1 }
     ensures all { accepted ≤ first_of shape.now (result + 1) }
     ensures from { shape.now.blocks ≤ result + 1 }

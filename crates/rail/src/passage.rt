@@ -1,6 +1,6 @@
 ghost use Rattle.std.specs.Prelude.{◌≡◌, ◌++◌, ◌+◌, ◌≤◌, ◌<◌, [], List, IfOk, OnOk, length, false, IsPermutation};
 ghost use Rattle.std.specs.List.{All};
-ghost use Rattle.rail.specs.Rail.{most_puts};
+ghost use Rattle.cursor_word.specs.Cursor.{most_puts};
 ghost use Rattle.rail.specs.Told.{IsPut, IsTake};
 
 use crate::answer::{Put, Take};
@@ -26,7 +26,7 @@ pub fn put_kept<Q: Rail>(
 ) -> Result<(), AllocError>
     requires seat { Q.PutsInto rail.now seat.old }
     requires width { length entry.now ≡ (Q.shape_of rail.now).width }
-    requires room { length (Q.made seat.old) < most_puts }
+    requires room { length (Q.made seat.old) < most_puts (Q.shape_of rail.now) }
     requires kept { put.old.items ≡ Q.made seat.old }
     ensures seat { Q.PutsInto rail.now seat.new }
     ensures takes { Q.TakesFrom rail.now seat.old → Q.TakesFrom rail.now seat.new }
@@ -83,7 +83,7 @@ pub fn put_all<Q: Rail>(
 ) -> Result<(), AllocError>
     requires seat { Q.PutsInto rail.now seat.old }
     requires width { All (λ entry. length entry ≡ (Q.shape_of rail.now).width) entries.now }
-    requires room { length (Q.made seat.old) + length entries.now ≤ most_puts }
+    requires room { length (Q.made seat.old) + length entries.now ≤ most_puts (Q.shape_of rail.now) }
     requires kept { put.old.items ≡ Q.made seat.old }
     ensures seat { Q.PutsInto rail.now seat.new }
     ensures takes { Q.TakesFrom rail.now seat.old → Q.TakesFrom rail.now seat.new }
@@ -135,7 +135,7 @@ pub fn pass_all<Q: Rail>(
     requires fresh { (Q.made seat ≡ []) × (Q.taken seat ≡ []) }
     requires one { ((Q.shape_of rail).seats ≡ 1) × (Q.number_of seat ≡ 0) }
     requires width { All (λ entry. length entry ≡ (Q.shape_of rail).width) entries.now }
-    requires room { length entries.now ≤ most_puts }
+    requires room { length entries.now ≤ most_puts (Q.shape_of rail) }
     ensures { IfOk result (λ passed. IsPermutation (passed.taken.items ++ Q.done_left passed.done) passed.put.items) }
 {
     let mut seat = seat;

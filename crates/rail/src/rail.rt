@@ -1,9 +1,10 @@
 ghost use Rattle.std.specs.Prelude.{◌≡◌, ℕ, ◌+◌, ◌-◌, ◌<◌, ◌≤◌, ◌^◌, List, Bool, Some, IfSome, IfNone, IfOk, IfErr, length, map, true, false, flat_map, IsPermutation};
 ghost use Rattle.std.specs.List.{All};
 ghost use Rattle.cursor_word.specs.Shape.{Grid, IsWithinLimits};
+ghost use Rattle.cursor_word.specs.Cursor.{most_puts};
 ghost use Rattle.rail.specs.declared.entry.Placed.{Placed};
 ghost use Rattle.rail.specs.Items.{IsRising, places};
-ghost use Rattle.rail.specs.Rail.{Puts, Takes, most_puts};
+ghost use Rattle.rail.specs.Rail.{Puts, Takes};
 ghost use Rattle.rail.specs.Outcome.{DropOutcome, IsAccepted, RetryOutcome, numbers_below};
 ghost use Rattle.rail.specs.Told.{Told};
 ghost use Rattle.rail.specs.declared.answer.Answer.{Answer};
@@ -71,7 +72,7 @@ pub trait Rail: Sized + Sync + Drop {
     fn put(&self, seat: &mut Self::Seat, entry: &[u64]) -> Put
         requires seat { PutsInto self.now seat.old }
         requires width { length entry.now ≡ (shape_of self.now).width }
-        requires room { length (made seat.old) < most_puts }
+        requires room { length (made seat.old) < most_puts (shape_of self.now) }
         ensures seat { (rail : Self) → PutsInto rail seat.old → PutsInto rail seat.new }
         ensures takes { (rail : Self) → TakesFrom rail seat.old → TakesFrom rail seat.new }
         ensures number { number_of seat.new ≡ number_of seat.old }

@@ -44,12 +44,12 @@ module _ (g : Grid) (old new : Holding) (grid : old.shape ≡ g) (sits : Sits ol
   abbrev Last : Type 0
   Last = LastTold (λ (h : Holding). h.shape) view_in Sits begins moves_to IsFound g (begins old start.Take) new (answer.Take result)
 
-  few_from : Last → length (view_in old).taken ≤ place_span
+  few_from : Last → length (view_in old).taken ≤ place_span g
   few_from l =
       let same = promised.taken_before IsHeld (λ (h : Holding). h.shape) view_in Sits begins moves_to IsFound machine own g [] old new grid sits rest first_take start.Take (answer.Take result) steps took.leads walk l in
-      subst (λ (items : List Placed). length items ≤ place_span) same l.told.few
+      subst (λ (items : List Placed). length items ≤ place_span g) same (subst (λ (h : Grid). length (view_in l.last).taken ≤ place_span h) l.grid l.told.few)
 
-  pub taken_few : length (view_in old).taken ≤ place_span
+  pub taken_few : length (view_in old).taken ≤ place_span g
   taken_few = few_from (promised.at_last IsHeld (λ (h : Holding). h.shape) view_in Sits begins moves_to IsFound machine own g [] old new grid sits rest first_take start.Take (answer.Take result) steps took.leads walk)
 
 pub put_counts : (old new : List Placed) (entry : List ℕ) (a : Put) → PutLeaves old new entry a → length new ≡ length old + puts_by a
@@ -62,9 +62,3 @@ take_counts old new out_old out (take.Ok place) e = ap length e ∙ length-appen
 take_counts old new out_old out (take.Empty place) e = ap length e.0 ∙ omega arith
 take_counts old new out_old out (take.Busy reason) e = ap length e.0 ∙ omega arith
 take_counts old new out_old out (take.Overrun place now) e = ap length e.0 ∙ omega arith
-
-pub takes_one : (a : Take) → takes_by a ≤ 1
-takes_one (take.Ok place) = omega arith
-takes_one (take.Empty place) = omega arith
-takes_one (take.Busy reason) = omega arith
-takes_one (take.Overrun place now) = omega arith

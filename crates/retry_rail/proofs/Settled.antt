@@ -12,6 +12,7 @@ use mathlib.Core.Option.{some}
 use lib.ListN.{get_elem?}
 use Rattle.cursor_word.specs.Shape.{Grid}
 use Rattle.cursor_word.specs.Cursor.{place_span}
+use Rattle.call_steps.proofs.Room.{made_fits}
 use Rattle.step_log.specs.Log.{Ends}
 use Rattle.rail.specs.Items.{IsRising, places}
 use Rattle.rail.specs.Outcome.{IsAccepted, RetryOutcome}
@@ -32,7 +33,6 @@ use Rattle.retry_rail.specs.Closed.{in_order, item_at, made_by_all, taken_by_all
 use Rattle.retry_rail.proofs.Permuted.{sound_permuted, stands}
 use Rattle.retry_rail.proofs.Parted.{replaced, same_order}
 use Rattle.retry_rail.proofs.Held.{views}
-use Rattle.retry_rail.proofs.Starts.{few_places}
 
 -- an item that no other of its place stands beside
 item_found : (items : List Placed) (p : ℕ) (x : Placed) (i : ℕ) → slice_get items i ≡ Some x → x.place ≡ p → ((j : ℕ) (y : Placed) → slice_get items j ≡ Some y → y.place ≡ p → y ≡ x) → item_at items p ≡ x
@@ -87,12 +87,12 @@ module _ (g key : Grid) (same : key ≡ g) (words : List ℕ) (all : Holding) (s
   pub ends_settled : AllRest all.views → IsSettled g (record { words = words; views = map (λ (x : Seated). x.view) seats })
   ends_settled rest = settles g words end.0 end.1 all (map (λ (x : Seated). x.view) seats) held_end end.3 p rest long_end
 
-  pub ends_few : length (made_by_all seats) < place_span
+  pub ends_few : length (made_by_all seats) ≤ place_span g
   ends_few =
       let vs = map (λ (x : Seated). x.view) seats in
       let q = replaced views end.0 end.1 all end.3 in
       let back : IsPermutation all.views vs = IsPermutation-sym vs all.views p in
-      let total = few_places g vs held_end.limits long_end
+      let total = made_fits g vs (omega (arith, long_end))
       (λ j u e. let i = stands all.views vs j u back e in
       let k = stands (views_of end.0) (all.views ++ q.rest) i.0 u q.before (get_left all.views q.rest i.0 u i.1) in held_end.few k.0 u k.1) in
       let e = length-flat_map (λ (v : View). v.made) vs in

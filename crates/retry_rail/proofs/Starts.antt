@@ -1,16 +1,13 @@
--- The rule holds at the start, and so many seats make few entries.
+-- The rule holds at the start, and seats take no more than they have places for.
 use Rattle.std.proofs.Common.{◌≡◌, ℕ, zero, suc, ◌*◌, ◌<◌, ◌≤◌, List, [], ◌∷◌, All, get_or, length, append-nil, sym, ap, ◌∙◌, subst, ⊎_elim, arith}
 use Rattle.std.specs.Prelude.{Some, slice_get}
-use Rattle.std.proofs.Math.Nat.{mul-le-mul_right}
 use Rattle.std.proofs.lemmas.Bool.{cases_lt}
 use Rattle.std.proofs.lemmas.List.{length-append, length-map, length-replicate}
-use Rattle.std.proofs.lemmas.List.Sums.{sum_by-le}
-use Rattle.std.proofs.lemmas.Option.{slice_get-get_or}
 use mathlib.Core.Option.{some, some-injective, some-ne-none}
 use lib.ListN.{get_elem?}
 use Rattle.cursor_word.specs.Shape.{Grid, IsWithinLimits}
 use Rattle.cursor_word.specs.Cursor.{place_span}
-use Rattle.rail.specs.Rail.{most_puts}
+use Rattle.call_steps.proofs.Room.{claims_fit}
 use Rattle.rail.specs.Items.{places}
 use Rattle.rail.specs.declared.entry.Placed.{Placed}
 use Rattle.bbq_core.specs.declared.view.View.{View}
@@ -18,7 +15,6 @@ use Rattle.bbq_core.specs.Machine.{resting, start_state}
 use Rattle.bbq_core.specs.Counts.{fetch_count, made_count, made_total, reading}
 use Rattle.bbq_core.specs.Sound.{IsSound, IsSoundAt}
 use Rattle.bbq_core.proofs.Facts.{none_from}
-use Rattle.bbq_core.proofs.Keeps.{allocated_few}
 use Rattle.bbq_core.proofs.TakeFacts.{made_once, reserved_made}
 use Rattle.bbq_core.proofs.Runs.{start_sound}
 use Rattle.bbq_core.proofs.Views.{get_replicate, one_le_sum}
@@ -26,31 +22,19 @@ use Rattle.retry_rail.specs.declared.holding.Holding.{Holding}
 use Rattle.retry_rail.specs.Holding.{IsHeld, all_seats, views_of}
 use Rattle.call_steps.specs.Rule.{HasRoom}
 
--- so many seats make less than all places
-few_total : (g : Grid) (vs : List View) → IsWithinLimits g → length vs ≡ g.seats → ((j : ℕ) (v : View) → slice_get vs j ≡ Some v → HasRoom v) → made_total vs ≤ 256 * most_puts
-few_total g vs limits all few =
-    let each : All (λ (v : View). made_count v ≤ most_puts) vs = λ k d lt. let r = few k (get_or vs k d) (slice_get-get_or vs k d lt) in omega arith in
-    let sum = sum_by-le made_count most_puts vs each in
-    let le : length vs ≤ 256 = omega (arith, limits.seats_to) in
-    let most = mul-le-mul_right most_puts le in omega arith
-
-pub few_places : (g : Grid) (vs : List View) → IsWithinLimits g → length vs ≡ g.seats → ((j : ℕ) (v : View) → slice_get vs j ≡ Some v → HasRoom v) → made_total vs < place_span
-few_places g vs limits all few = let m = few_total g vs limits all few in omega arith
-
 -- no more places are reserved than allocated
 reserved_few : (g : Grid) (K J a t : ℕ) (ws : List ℕ) (vs : List View) → IsSoundAt g K J a t ws vs → t ≤ a
 reserved_few g K J a t ws vs s = ⊎_elim (λ lt. absurd (let r = reserved_made g K J a t ws vs a s lt in let o = made_once g K J a t ws vs a s in let z = none_from a a (omega arith) in omega arith)) (λ le. le) (cases_lt a t)
 
 -- a seat takes no more than there are places
-pub taken_few : (g : Grid) (ws : List ℕ) (vs : List View) (j : ℕ) (v : View) → IsWithinLimits g → IsSound g ws vs → length vs ≡ g.seats → ((i : ℕ) (u : View) → slice_get vs i ≡ Some u → HasRoom u) → slice_get vs j ≡ Some v → length v.taken ≤ place_span
-taken_few g ws vs j v limits sound all few at =
+pub taken_few : (g : Grid) (ws : List ℕ) (vs : List View) (j : ℕ) (v : View) → IsSound g ws vs → length vs ≡ g.seats → ((i : ℕ) (u : View) → slice_get vs i ≡ Some u → HasRoom g u) → slice_get vs j ≡ Some v → length v.taken ≤ place_span g
+taken_few g ws vs j v sound all few at =
     let s = sound.at in
     let t = reserved_few g sound.opened sound.passed sound.allocated sound.reserved ws vs s in
-    let a = allocated_few g sound.opened sound.passed sound.allocated sound.reserved ws vs s in
-    let m = few_total g vs limits all few in
+    let a = claims_fit g vs (omega arith) few in
     let one = one_le_sum (fetch_count g) vs j v at in
-    let number = s.counts.read_number in
-    omega (arith, length-append (places v.taken) (reading g v.phase), length-map v.taken (λ (i : Placed). i.place), limits.seats_to)
+    let own = length-append (places v.taken) (reading g v.phase) in
+    omega (arith, s.counts.number, s.counts.read_number, length-map v.taken (λ (i : Placed). i.place))
 
 only_first : (g : Grid) (at : ℕ) (h : Holding) → get_elem? (all_seats g ∷ []) at ≡ some h → h ≡ all_seats g
 only_first g zero h e = sym (some-injective (all_seats g) h e)
@@ -64,5 +48,5 @@ starts_held g limits =
       shapes = λ at h get some. ap (λ (x : Holding). x.shape) (only_first g at h get);
       sound = subst (IsSound g (start_state g).words) e (start_sound g limits);
       all = ap length (sym e) ∙ length-replicate g.seats (resting g);
-      few = λ j v get. let r : resting g ≡ v = get_replicate g.seats (resting g) j v (ap (λ (vs : List View). slice_get vs j) e ∙ get) in subst HasRoom r (omega arith);
+      few = λ j v get. let r : resting g ≡ v = get_replicate g.seats (resting g) j v (ap (λ (vs : List View). slice_get vs j) e ∙ get) in subst (HasRoom g) r (omega arith);
     }

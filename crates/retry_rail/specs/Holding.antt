@@ -22,7 +22,7 @@ pub record IsHeld (g : Grid) (words : List ℕ) (holdings : List Holding) : Type
   pub shapes : (at : ℕ) (h : Holding) → get_elem? holdings at ≡ some h → 0 < length h.views → h.shape ≡ g
   pub sound : IsSound g words (views_of holdings)
   pub all : length (views_of holdings) ≡ g.seats
-  pub few : (j : ℕ) (v : View) → slice_get (views_of holdings) j ≡ Some v → HasRoom v
+  pub few : (j : ℕ) (v : View) → slice_get (views_of holdings) j ≡ Some v → HasRoom g v
 
 -- the first seat stands for all. A split hands out the first of a seat's views, a join puts the views of two seats together, and the seat
 -- that was taken in stands for none

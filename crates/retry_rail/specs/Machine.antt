@@ -27,4 +27,4 @@ pub record IsFound (h : Holding) (p : Phase) (n : ℕ) : Type 0 where
   pub may : MayFind h.shape p n
   pub state : MachineState
   pub tells : Tells h.shape state (view_in h) p (after h.shape p n)
-  pub few : length (view_in h).taken ≤ place_span
+  pub few : length (view_in h).taken ≤ place_span h.shape

@@ -1,9 +1,10 @@
 //! The queue.
-ghost use Rattle.std.specs.Prelude.{◌≡◌, ℕ, ◌+◌, ◌-◌, ◌<◌, ◌≤◌, List, [], ◌∷◌, ◌++◌, Some, IfErr, IfOk, IsPermutation, false, true, flat_map, length, map};
+ghost use Rattle.std.specs.Prelude.{◌≡◌, ℕ, ◌+◌, ◌-◌, ◌<◌, ◌≤◌, ◌^◌, List, [], ◌∷◌, ◌++◌, Some, IfErr, IfOk, IsPermutation, false, true, flat_map, length, map, min};
 ghost use Rattle.std.specs.List.{All};
+ghost use Rattle.cursor_word.specs.Cursor.{most_puts};
 ghost use Rattle.rail.specs.Items.{IsRising, places};
 ghost use Rattle.rail.specs.Outcome.{DropOutcome, IsAccepted, RetryOutcome, numbers_below};
-ghost use Rattle.rail.specs.Rail.{Puts, Takes, most_puts};
+ghost use Rattle.rail.specs.Rail.{Puts, Takes};
 ghost use Rattle.rail.specs.declared.answer.Answer.TheVariants as answer;
 ghost use Rattle.step_log.specs.declared.step.Taken.{Taken};
 ghost use Rattle.bbq_core.specs.PutSteps.{first_put};
@@ -80,8 +81,8 @@ impl RetryRail {
     fn finish(self, seats: Vec<RetrySeat>, puts: u64, takes: u64, mut left: Batch) -> RetryDone
         requires seats { All (IsSeatOf self) seats.items }
         requires all { length seats.items ≡ self.shape.seats }
-        requires puts { puts ≡ length (made_by_all seats.items) }
-        requires takes { takes ≡ length (taken_by_all seats.items) }
+        requires puts { puts ≡ min (length (made_by_all seats.items)) (2 ^ 64 - 1) }
+        requires takes { takes ≡ min (length (taken_by_all seats.items)) (2 ^ 64 - 1) }
         requires empty { left.items ≡ [] }
         requires room { puts - takes ≤ left.spare }
         ensures shape { result.shape ≡ self.shape }
@@ -113,17 +114,18 @@ impl RetryRail {
 
 impl Rail for RetryRail {
     ghost use Rattle.std.specs.Prelude.{◌≡◌, false};
+    ghost use Rattle.cursor_word.specs.Shape.{most_seats};
     ghost use Rattle.retry_rail.specs.Retry.{IsSeatOf};
 
     type Seat = RetrySeat;
 
     type Done = RetryDone;
 
-    const MOST_SEATS: u64 = 256;
+    const MOST_SEATS: u64 = cursor_word::MOST_SEATS;
 
     const DROPS: bool = false;
 
-    ghost MOST_SEATS = { 256 };
+    ghost MOST_SEATS = { most_seats };
 
     ghost DROPS = { false };
 
@@ -158,7 +160,7 @@ impl Rail for RetryRail {
     fn put(&self, seat: &mut RetrySeat, entry: &[u64]) -> Put
         requires seat { IsSeatOf self.now seat.old }
         requires width { length entry.now ≡ self.now.shape.width }
-        requires room { length seat.old.view.made < most_puts }
+        requires room { length seat.old.view.made < most_puts self.now.shape }
         ensures seat { (rail : Queue) → IsSeatOf rail seat.old → IsSeatOf rail seat.new }
         ensures takes { (rail : Queue) → IsSeatOf rail seat.old → IsSeatOf rail seat.new }
         ensures number { seat.new.number ≡ seat.old.number }

@@ -1,17 +1,16 @@
 //! The seats of a queue: how they are dealt when it is made, and gathered when it is closed.
-ghost use Rattle.std.specs.Prelude.{◌≡◌, ℕ, ◌+◌, ◌<◌, ◌≤◌, List, [], ◌∷◌, ◌++◌, Some, None, false, IfOk, All, IsPermutation, map, length, replicate};
+ghost use Rattle.std.specs.Prelude.{◌≡◌, ℕ, ◌+◌, ◌-◌, ◌^◌, ◌<◌, List, [], ◌∷◌, ◌++◌, Some, None, false, IfOk, All, IsPermutation, map, length, min, replicate};
 ghost use Rattle.std.specs.List.{range_with_len};
-ghost use Rattle.cursor_word.specs.Shape.{IsWithinLimits, most_seats};
 ghost use Rattle.cursor_word.specs.Layout.{start_at, word_count};
 ghost use Rattle.bbq_core.specs.Machine.{AllRest, resting};
 ghost use Rattle.rail.specs.Outcome.{numbers_below};
-ghost use Rattle.rail.specs.Rail.{Puts, Takes, most_puts};
+ghost use Rattle.rail.specs.Rail.{Puts, Takes};
 ghost use Rattle.rail.specs.declared.answer.Answer.TheVariants as answer;
 ghost use Rattle.step_log.specs.declared.step.Taken.{Taken};
 ghost use Rattle.bbq_core.specs.PutSteps.{first_put};
 ghost use Rattle.bbq_core.specs.TakeSteps.{first_take};
 ghost use Rattle.call_steps.specs.Call.{TookSteps};
-ghost use Rattle.cursor_word.specs.Cursor.{place_span};
+ghost use Rattle.cursor_word.specs.Cursor.{most_puts};
 ghost use Rattle.retry_rail.specs.Holding.{all_seats, holding};
 ghost use Rattle.retry_rail.specs.Retry.{IsFresh, Seated, puts_by, takes_by, view_in};
 ghost use Rattle.retry_rail.specs.Closed.{made_by_all, taken_by_all};
@@ -34,9 +33,7 @@ pub struct RetrySeat {
 }
 
 impl Model for RetrySeat {
-    ghost use Rattle.std.specs.Prelude.{◌≡◌, ◌+◌, ◌≤◌, [], ◌∷◌, None, length};
-    ghost use Rattle.cursor_word.specs.Cursor.{place_span};
-    ghost use Rattle.rail.specs.Rail.{most_puts};
+    ghost use Rattle.std.specs.Prelude.{◌≡◌, [], ◌∷◌, None, length};
     ghost use Rattle.retry_rail.specs.Holding.{holding};
     ghost use Rattle.retry_rail.specs.Retry.{Seated, view_in};
 
@@ -44,7 +41,7 @@ impl Model for RetrySeat {
 
     ghost view = { λ s. record { of = record { id = s.seat.id; shape = s.seat.view.shape }; number = s.number; view = view_in s.seat.view; log = s.seat.log } };
 
-    ghost invariant = { λ s. (s.seat.view ≡ holding s.seat.view.shape (view_in s.seat.view ∷ [])) × ((view_in s.seat.view).phase ≡ None) × (s.puts ≡ length (view_in s.seat.view).made) × (s.takes ≡ length (view_in s.seat.view).taken) × (s.puts ≤ most_puts) × (s.takes ≤ place_span + 1) };
+    ghost invariant = { λ s. (s.seat.view ≡ holding s.seat.view.shape (view_in s.seat.view ∷ [])) × ((view_in s.seat.view).phase ≡ None) × (s.puts ≡ length (view_in s.seat.view).made) × (s.takes ≡ length (view_in s.seat.view).taken) };
 }
 
 impl RetrySeat {
@@ -65,7 +62,7 @@ impl RetrySeat {
         requires words { (words.now.key ≡ shape.now) × (words.now.id.words ≡ word_count shape.now) }
         requires own { self.old.of ≡ record { id = words.now.id; shape = shape.now } }
         requires width { length entry.now ≡ shape.now.width }
-        requires room { length self.old.view.made < most_puts }
+        requires room { length self.old.view.made < most_puts shape.now }
         ensures same { self.new.of ≡ self.old.of }
         ensures number { self.new.number ≡ self.old.number }
         ensures taken { self.new.view.taken ≡ self.old.view.taken }
@@ -73,6 +70,7 @@ impl RetrySeat {
         ensures told { self.new.view.answer ≡ Some (answer.Put result) }
         ensures steps { (steps : List Taken) × TookSteps shape.now entry.now first_put steps (answer.Put result) self.new.view.trail self.old.log self.new.log }
     {
+        let _size = shape.size();
         let result = run_put::<Holdings, Brand>(words, shape, &mut self.seat, entry);
         self.puts = puts_after(self.puts, &result);
         result
@@ -90,6 +88,7 @@ impl RetrySeat {
         ensures told { self.new.view.answer ≡ Some (answer.Take result) }
         ensures steps { (steps : List Taken) × TookSteps shape.now [] first_take steps (answer.Take result) self.new.view.trail self.old.log self.new.log }
     {
+        let _size = shape.size();
         let result = run_take::<Holdings, Brand>(words, shape, &mut self.seat, out);
         self.takes = takes_after(self.takes, &result);
         result
@@ -97,16 +96,14 @@ impl RetrySeat {
 
     /// How many entries the seat's puts had accepted.
     pub(crate) fn puts(&self) -> u64
-        ensures count { result ≡ length self.now.view.made }
-        ensures most { result ≤ most_puts }
+        ensures { result ≡ length self.now.view.made }
     {
         self.puts
     }
 
     /// How many entries its takes answered.
     pub(crate) fn takes(&self) -> u64
-        ensures count { result ≡ length self.now.view.taken }
-        ensures most { result ≤ place_span + 1 }
+        ensures { result ≡ length self.now.view.taken }
     {
         self.takes
     }
@@ -122,7 +119,7 @@ impl RetrySeat {
 }
 
 fn puts_after(puts: u64, answer: &Put) -> u64
-    requires { puts < most_puts }
+    requires { puts + 1 < 2 ^ 64 }
     ensures { result ≡ puts + puts_by answer.now }
 {
     match answer {
@@ -132,7 +129,7 @@ fn puts_after(puts: u64, answer: &Put) -> u64
 }
 
 fn takes_after(takes: u64, answer: &Take) -> u64
-    requires { takes ≤ place_span }
+    requires { takes + 1 < 2 ^ 64 }
     ensures { result ≡ takes + takes_by answer.now }
 {
     match answer {
@@ -163,17 +160,16 @@ pub(crate) fn deal(
     Ok(seats)
 }
 
-/// How many entries all seats put, and how many they took.
+/// How many entries all seats put, and how many they took. Neither number comes near the greatest one, which shows where the seats are joined.
 pub(crate) fn totals(seats: &[RetrySeat]) -> (u64, u64)
-    requires { length seats.now ≤ most_seats }
-    ensures puts { result.0 ≡ length (made_by_all seats.now) }
-    ensures takes { result.1 ≡ length (taken_by_all seats.now) }
+    ensures puts { result.0 ≡ min (length (made_by_all seats.now)) (2 ^ 64 - 1) }
+    ensures takes { result.1 ≡ min (length (taken_by_all seats.now)) (2 ^ 64 - 1) }
 {
     let mut puts = 0u64;
     let mut takes = 0u64;
     for index in 0..seats.len() {
-        puts += seats[index].puts();
-        takes += seats[index].takes();
+        puts = puts.saturating_add(seats[index].puts());
+        takes = takes.saturating_add(seats[index].takes());
     }
     (puts, takes)
 }

@@ -1,5 +1,5 @@
 -- An answer of the one seat is what one thread is answered, and what a queue promises.
-use Rattle.std.proofs.Common.{◌≡◌, ℕ, ◌+◌, ◌<◌, List, [], ◌∷◌, length, length-append, ap, ◌∙◌, subst, arith}
+use Rattle.std.proofs.Common.{◌≡◌, ℕ, ◌+◌, ◌<◌, ◌≤◌, List, [], ◌∷◌, length, length-append, ap, ◌∙◌, subst, arith}
 use Rattle.std.specs.Prelude.{None, false}
 use Rattle.cursor_word.specs.Shape.{Grid}
 use Rattle.cursor_word.specs.Cursor.{place_span}
@@ -57,13 +57,13 @@ module _ (g : Grid) (entry : List ℕ) (old new : Holding) (shape : old.shape �
         (subst (λ (items : List Placed). AnswersAlone g (length items) (length l.last.view.taken) a) made_same
         (subst (λ (h : Grid). AnswersAlone h (length l.last.view.made) (length l.last.view.taken) a) l.grid (l.told.alone a (ap (λ (h : Grid). after h l.phase l.found) l.grid ∙ l.answers))))
 
-    few_by : length old.view.taken < place_span
-    few_by = subst (λ (items : List Placed). length items < place_span) taken_same l.told.few
+    few_by : length old.view.taken ≤ place_span g
+    few_by = subst (λ (items : List Placed). length items ≤ place_span g) taken_same (subst (λ (h : Grid). length l.last.view.taken ≤ place_span h) l.grid l.told.few)
 
   pub exact : AnswersAlone g (length old.view.made) (length old.view.taken) a
   exact = exact_by last
 
-  pub few_taken : length old.view.taken < place_span
+  pub few_taken : length old.view.taken ≤ place_span g
   few_taken = few_by last
 
 pub put_promises : (g : Grid) (entry : List ℕ) (old new : Holding) (a : Put) (old_log new_log : List Taken) → old.shape ≡ g → old.view.phase ≡ None → HasPut entry old.view new.view a
@@ -102,10 +102,10 @@ put_seen g g' entry old new seat id log a new_log seen same shape rest has call 
 pub take_seen : (g g' : Grid) (old new : Holding) (seat : Seated) (id : TableId) (log : List Taken) (out_old out : List ℕ) (a : Take) (new_log : List Taken) → record { of = record { id = id; shape = old.shape }; view = old.view; log = log } ≡ seat → g' ≡ g → old.shape ≡ g' → old.view.phase ≡ None
     → HasTaken out_old out old.view new.view a
     → (steps : List Taken) × TookSteps g' [] first_take steps (answer.Take a) new.view.trail log new_log × Walks does_step TellsAlone g' (Next first_take) (begins_call old start.Take) steps new
-    → Takes g false new.view.made out_old out seat.view.taken new.view.taken new.view.trail a × (a ≡ retry_take (length seat.view.made) (length seat.view.taken)) × (length old.view.taken < place_span)
+    → Takes g false new.view.made out_old out seat.view.taken new.view.taken new.view.trail a × (a ≡ retry_take (length seat.view.made) (length seat.view.taken)) × (length old.view.taken ≤ place_span g)
 take_seen g g' old new seat id log out_old out a new_log seen same shape rest has call =
-    subst (λ (s : Seated). Takes g false new.view.made out_old out s.view.taken new.view.taken new.view.trail a × (a ≡ retry_take (length s.view.made) (length s.view.taken)) × (length old.view.taken < place_span)) seen
-    (subst (λ (h : Grid). Takes h false new.view.made out_old out old.view.taken new.view.taken new.view.trail a × (a ≡ retry_take (length old.view.made) (length old.view.taken)) × (length old.view.taken < place_span)) same (
+    subst (λ (s : Seated). Takes g false new.view.made out_old out s.view.taken new.view.taken new.view.trail a × (a ≡ retry_take (length s.view.made) (length s.view.taken)) × (length old.view.taken ≤ place_span g)) seen
+    (subst (λ (h : Grid). Takes h false new.view.made out_old out old.view.taken new.view.taken new.view.trail a × (a ≡ retry_take (length old.view.made) (length old.view.taken)) × (length old.view.taken ≤ place_span h)) same (
       take_promises g' old new out_old out a log new_log shape rest has call,
       exact g' [] old new shape rest first_take start.Take (answer.Take a) call.0 new.view.trail log new_log call.1 call.2,
       few_taken g' [] old new shape rest first_take start.Take (answer.Take a) call.0 new.view.trail log new_log call.1 call.2,

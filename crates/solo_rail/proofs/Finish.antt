@@ -10,6 +10,7 @@ use mathlib.Core.Option.{some}
 use lib.ListN.{get_elem?}
 use Rattle.cursor_word.specs.Shape.{Grid, IsWithinLimits}
 use Rattle.cursor_word.specs.Cursor.{place_span}
+use Rattle.cursor_word.proofs.Places.{most_puts_to}
 use Rattle.rail.specs.declared.entry.Placed.{Placed}
 use Rattle.rail.specs.Items.{IsRising, places}
 use Rattle.rail.specs.Outcome.{IsAccepted, RetryOutcome, numbers_below}
@@ -34,7 +35,7 @@ use Rattle.solo_rail.proofs.Kept.{made_one, only_at, taken_one}
 
 -- the seat's lists, and what is left in the words
 pub record Settles (g : Grid) (v : View) (words : List ℕ) : Type 0 where
-  pub few : length v.made < place_span
+  pub few : length v.made ≤ place_span g
   pub fewer : length v.taken ≤ length v.made
   pub whole : IsAccepted v.made v.made
   pub order : IsRising (places v.taken)
@@ -47,7 +48,7 @@ module _ (g : Grid) (v : View) (words : List ℕ) (limits : IsWithinLimits g) (s
   is_sound : IsSound g words (v ∷ [])
   is_sound = sound g still.opened still.passed still.allocated still.reserved _ _ still.sound
 
-  still_settles : length v.made < place_span → Settles g v words
+  still_settles : length v.made ≤ place_span g → Settles g v words
   still_settles few =
       let s = settled g state limits is_sound still.rest in
       let made : all_made (v ∷ []) ≡ v.made = append-nil v.made in
@@ -72,8 +73,8 @@ pub settles : (g : Grid) (h : Holding) (words : List ℕ) → Ends (IsHeld g) h 
 settles g h words (views, position, held, get) rest =
     let at = only_at held.seat h position (subst (λ (l : List Holding). get_elem? l position ≡ some h) held.only get) in
     let stands : Stands g words h.view h.view.phase = subst (λ (k : Holding). Stands g words k.view k.view.phase) at.1 held.stands in
-    let room = subst (λ (k : Holding). HasRoom k.view) at.1 held.room in
-    still_settles g h.view words held.limits (subst (Stands g words h.view) rest stands) (omega arith)
+    let room = subst (λ (k : Holding). HasRoom g k.view) at.1 held.room in
+    still_settles g h.view words held.limits (subst (Stands g words h.view) rest stands) (omega (arith, most_puts_to g))
 
 -- the seat as clauses see it
 pub finish_seen : (key : Grid) (h : Holding) (seat : Seated) (id : TableId) (log : List Taken) (words : List ℕ) → record { of = record { id = id; shape = h.shape }; view = h.view; log = log } ≡ seat → h.view.phase ≡ None → Ends (IsHeld key) h words

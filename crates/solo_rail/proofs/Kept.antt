@@ -1,12 +1,13 @@
 -- Each step of the one seat keeps the rule.
 use Rattle.std.proofs.Common.{◌≡◌, ℕ, zero, suc, ◌+◌, ◌<◌, ◌≤◌, List, [], ◌∷◌, length, refl, sym, ap, ◌∙◌, subst, arith}
-use Rattle.std.specs.Prelude.{Option, Some, None, slice_index, slice_set}
+use Rattle.std.specs.Prelude.{None, Option, Some, slice_get, slice_index, slice_set}
 use Rattle.std.proofs.lemmas.List.{length-append, length-map}
 use Rattle.std.proofs.lemmas.List.Sums.{sum_by-cons}
 use mathlib.Core.Option.{some, some-ne-none}
 use lib.ListN.{get_elem?}
 use Rattle.cursor_word.specs.Shape.{Grid, IsWithinLimits}
 use Rattle.cursor_word.specs.Cursor.{place_span}
+use Rattle.call_steps.proofs.Room.{claims_fit, made_fits}
 use Rattle.rail.specs.declared.entry.Placed.{Placed}
 use Rattle.rail.specs.Items.{places}
 use Rattle.bbq_core.specs.declared.event.Start.{Start}
@@ -22,7 +23,7 @@ use Rattle.bbq_core.specs.Machine.{begun, index, moved, phase_after, seen, words
 use Rattle.bbq_core.specs.Sound.{IsSound}
 use Rattle.bbq_core.specs.Alone.{GoesOnAlone, IsAlone, IsStill, gives_out}
 use Rattle.bbq_core.proofs.AloneCalls.{goes_alone, put_alone, take_alone}
-use Rattle.bbq_core.proofs.Keeps.{allocated_few, sound}
+use Rattle.bbq_core.proofs.Keeps.{sound}
 use Rattle.bbq_core.proofs.Settles.{reserved_within}
 use Rattle.bbq_core.proofs.Outcomes.{Tells, sound_tells}
 use Rattle.bbq_core.proofs.Ready.{can_step}
@@ -56,10 +57,15 @@ stands_by g n t words w (Next q) alone =
 stands_by g n t words w (Done a) rest = let still = rest.1 in
     subst (λ (k : ℕ). IsStill g (length w.made) k words (w ∷ [])) (sym still.taken ∙ taken_one w) (subst (λ (k : ℕ). IsStill g k (t + gives_out a) words (w ∷ [])) (sym still.made ∙ made_one w) still)
 
-few_made : (v : View) → HasRoom v → made_total (v ∷ []) < place_span
-few_made v room = let e = made_one v in omega arith
+-- the one view has room
+alone_room : (g : Grid) (v : View) → HasRoom g v → (j : ℕ) (u : View) → slice_get (v ∷ []) j ≡ Some u → HasRoom g u
+alone_room g v room zero u e = let q : v ≡ u = cc in subst (HasRoom g) q room
+alone_room g v room (suc j) u e = cc
 
-module _ (g : Grid) (words : List ℕ) (u : View) (p : Phase) (limits : IsWithinLimits g) (room : HasRoom u) (is : u.phase ≡ Some p) (alone : IsAlone g (length u.made) (length u.taken) words (u ∷ []) 0 p) where
+few_made : (g : Grid) (v : View) → IsWithinLimits g → HasRoom g v → made_total (v ∷ []) ≤ place_span g
+few_made g v limits room = made_fits g (v ∷ []) (omega (arith, limits.seats_from)) (alone_room g v room)
+
+module _ (g : Grid) (words : List ℕ) (u : View) (p : Phase) (limits : IsWithinLimits g) (room : HasRoom g u) (is : u.phase ≡ Some p) (alone : IsAlone g (length u.made) (length u.taken) words (u ∷ []) 0 p) where
   abbrev word : ℕ
   word = slice_index words (index (want g p u.entry))
 
@@ -70,30 +76,29 @@ module _ (g : Grid) (words : List ℕ) (u : View) (p : Phase) (limits : IsWithin
   next = seen g u p word
 
   goes : GoesOnAlone g (length u.made) (length u.taken) (words_after g words u p) (next ∷ []) 0 (after g p word)
-  goes = goes_alone g (length u.made) (length u.taken) words (u ∷ []) 0 u p limits alone (let f = few_made u room in let e = made_one u in omega arith) refl is
+  goes = goes_alone g (length u.made) (length u.taken) words (u ∷ []) 0 u p limits alone (omega (arith, few_made g u limits room, made_one u)) refl is
 
-  room_next : HasRoom next
+  room_next : HasRoom g next
   room_next = room_seen g u p word is room
 
   stands_next : Stands g (words_after g words u p) next next.phase
   stands_next = stands_by g (length u.made) (length u.taken) (words_after g words u p) next (after g p word) goes
 
   range_by : (b : After) → after g p word ≡ b → GoesOnAlone g (length u.made) (length u.taken) (words_after g words u p) (next ∷ []) 0 b → IsAfterInRange g b
-  range_by (Next q) e a = (can_step g (words_after g words u p) (next ∷ []) 0 next q limits (sound g a.opened a.passed a.allocated a.reserved _ _ a.sound) (few_made next room_next) refl (ap phase_after e)).range
+  range_by (Next q) e a = (can_step g (words_after g words u p) (next ∷ []) 0 next q limits (sound g a.opened a.passed a.allocated a.reserved _ _ a.sound) (few_made g next limits room_next) refl (ap phase_after e)).range
   range_by (Done a) e r = tt
 
   sound_here : IsSound g words (u ∷ [])
   sound_here = sound g alone.opened alone.passed alone.allocated alone.reserved _ _ alone.sound
 
-  few_taken : length u.taken < place_span
+  few_taken : length u.taken ≤ place_span g
   few_taken =
       let fetched_all : fetch_count g u ≡ alone.reserved = omega (arith, sum_by-cons (fetch_count g) u [], alone.sound.counts.read_number) in
       let within : alone.reserved ≤ alone.allocated = reserved_within g alone.opened alone.passed alone.allocated alone.reserved words (u ∷ []) alone.sound in
-      let few = allocated_few g alone.opened alone.passed alone.allocated alone.reserved words (u ∷ []) alone.sound in
-      let one = made_one u in
+      let few = claims_fit g (u ∷ []) (omega (arith, limits.seats_from)) (alone_room g u room) in
       let own = length-append (places u.taken) (reading g u.phase) in
       let all = length-map u.taken (λ (i : Placed). i.place) in
-      omega (arith, limits.seats_to)
+      omega (arith, alone.sound.counts.number)
 
   same_after : after g p value ≡ after g p word
   same_after = value_after g p u.entry word
@@ -101,7 +106,7 @@ module _ (g : Grid) (words : List ℕ) (u : View) (p : Phase) (limits : IsWithin
   tells : TellsAlone (holding g u words) p value
   tells = record {
     may = record {
-      fits = value_fits g p u.entry word (can_step g words (u ∷ []) 0 u p limits sound_here (few_made u room) refl is).found;
+      fits = value_fits g p u.entry word (can_step g words (u ∷ []) 0 u p limits sound_here (few_made g u limits room) refl is).found;
       follows = subst (IsAfterInRange g) (sym same_after) (range_by (after g p word) refl goes);
     };
     alone = λ a e. (subst (GoesOnAlone g (length u.made) (length u.taken) (words_after g words u p) (next ∷ []) 0) (sym same_after ∙ e) goes).0;
@@ -118,7 +123,7 @@ module _ (g : Grid) (words : List ℕ) (u : View) (p : Phase) (limits : IsWithin
     limits = limits;
     shape = refl;
     known = refl;
-    room = subst HasRoom (sym (value_seen g u p word)) room_next;
+    room = subst (HasRoom g) (sym (value_seen g u p word)) room_next;
     stands = subst (λ (w : View). Stands g (words_after g words u p) w w.phase) (sym (value_seen g u p word)) stands_next;
   }
 
@@ -139,14 +144,14 @@ Steps_on g h p u =
     (x : Holding) × IsHeld g (slice_set h.words (index (want g p u.view.entry)) (moved (want g p u.view.entry) (slice_index h.words (index (want g p u.view.entry))))) (x ∷ [])
     × Moves does_step TellsAlone u u.view.phase (value_of (logged (want g p u.view.entry) (slice_index h.words (index (want g p u.view.entry))))) x
 
-steps_on : (h : Holding) (s : Start) (p : Phase) → IsWithinLimits h.shape → HasRoom h.view → Stands h.shape h.words h.view h.view.phase → MayDo h.shape h.view s → (in_call {V = Holding} (λ (k : Holding). k.view) begins_call h s).view.phase ≡ Some p
+steps_on : (h : Holding) (s : Start) (p : Phase) → IsWithinLimits h.shape → HasRoom h.shape h.view → Stands h.shape h.words h.view h.view.phase → MayDo h.shape h.view s → (in_call {V = Holding} (λ (k : Holding). k.view) begins_call h s).view.phase ≡ Some p
     → Steps_on h.shape h p (in_call {V = Holding} (λ (k : Holding). k.view) begins_call h s)
 steps_on h s p limits room stands may here =
     let is = in_call_is h s h.view.phase in
     let b : View = begun h.view h.view.phase s in
     let at : b.phase ≡ Some p = ap (λ (k : Holding). k.view.phase) (sym is) ∙ here in
     let alone = begins_alone h.shape h.words h.view s h.view.phase p refl may stands at in
-    let room_b : HasRoom b = room_begun h.shape h.view h.view.phase s refl may room in
+    let room_b : HasRoom h.shape b = room_begun h.shape h.view h.view.phase s refl may room in
     subst (Steps_on h.shape h p) (sym is)
     (does_step (holding h.shape b h.words) p (value h.shape h.words b p limits room_b at alone), held_next h.shape h.words b p limits room_b at alone, does_tell h.shape h.words b p limits room_b at alone)
 
@@ -162,7 +167,7 @@ machines = record {
       let shape : h.shape ≡ key = ap (λ (k : Holding). k.shape) (sym at.1) ∙ held.shape in
       let known : h.words ≡ words = ap (λ (k : Holding). k.words) (sym at.1) ∙ held.known in
       let limits : IsWithinLimits h.shape = subst IsWithinLimits (sym shape) held.limits in
-      let room : HasRoom h.view = subst (λ (k : Holding). HasRoom k.view) at.1 held.room in
+      let room : HasRoom h.shape h.view = subst (λ (g : Grid). HasRoom g h.view) (sym shape) (subst (λ (k : Holding). HasRoom key k.view) at.1 held.room) in
       let stands : Stands h.shape h.words h.view h.view.phase =
       subst (λ (g : Grid). Stands g h.words h.view h.view.phase) (sym shape) (subst (λ (ws : List ℕ). Stands key ws h.view h.view.phase) (sym known) (subst (λ (k : Holding). Stands key words k.view k.view.phase) at.1 held.stands)) in
       let views_are : slice_set views position (steps_on h s p limits room stands may here).0 ≡ (steps_on h s p limits room stands may here).0 ∷ [] =

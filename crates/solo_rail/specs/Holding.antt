@@ -1,5 +1,5 @@
 -- The rule of the words of a queue with one seat: the seat knows all words, and it stands alone.
-use Rattle.std.specs.Prelude.{◌≡◌, ℕ, ◌<◌, List, [], ◌∷◌, Option, Some, None, length}
+use Rattle.std.specs.Prelude.{◌≡◌, ℕ, ◌<◌, ◌≤◌, List, [], ◌∷◌, Option, Some, None, length}
 use Rattle.cursor_word.specs.Shape.{Grid, IsWithinLimits}
 use Rattle.cursor_word.specs.Cursor.{place_span}
 use Rattle.rail.specs.declared.answer.Answer.{Answer}
@@ -29,7 +29,7 @@ pub record IsHeld (g : Grid) (words : List ℕ) (holdings : List Holding) : Type
   pub limits : IsWithinLimits g
   pub shape : seat.shape ≡ g
   pub known : seat.words ≡ words
-  pub room : HasRoom seat.view
+  pub room : HasRoom g seat.view
   pub stands : Stands g words seat.view seat.view.phase
 
 -- the seat begins a call, and does the step of a phase
@@ -44,7 +44,7 @@ does_step h p n = holding h.shape (seen h.shape h.view p n) (words_after h.shape
 pub record TellsAlone (h : Holding) (p : Phase) (n : ℕ) : Type 0 where
   pub may : MayFind h.shape p n
   pub alone : (a : Answer) → after h.shape p n ≡ Done a → AnswersAlone h.shape (length h.view.made) (length h.view.taken) a
-  pub few : length h.view.taken < place_span
+  pub few : length h.view.taken ≤ place_span h.shape
   pub state : MachineState
   pub own : Tells h.shape state h.view p (after h.shape p n)
 

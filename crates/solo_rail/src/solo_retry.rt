@@ -1,11 +1,11 @@
 //! The queue that refuses when full, for one seat.
-ghost use Rattle.std.specs.Prelude.{◌≡◌, ℕ, ◌<◌, ◌≤◌, ◌+◌, ◌-◌, List, [], ◌∷◌, ◌++◌, IfErr, IfOk, IfSome, IsPermutation, Some, false, flat_map, length, map, slice_get, true};
+ghost use Rattle.std.specs.Prelude.{◌≡◌, ℕ, ◌<◌, ◌≤◌, ◌+◌, ◌-◌, ◌^◌, List, [], ◌∷◌, ◌++◌, IfErr, IfOk, IfSome, IsPermutation, Some, false, flat_map, length, map, slice_get, true};
 ghost use Rattle.std.specs.List.{All};
 ghost use Rattle.cursor_word.specs.Shape.{Grid};
-ghost use Rattle.cursor_word.specs.Cursor.{place_span};
+ghost use Rattle.cursor_word.specs.Cursor.{most_puts};
 ghost use Rattle.rail.specs.Items.{IsRising, places};
 ghost use Rattle.rail.specs.Outcome.{DropOutcome, IsAccepted, RetryOutcome, numbers_below};
-ghost use Rattle.rail.specs.Rail.{Puts, Takes, most_puts};
+ghost use Rattle.rail.specs.Rail.{Puts, Takes};
 ghost use Rattle.rail.specs.Sequential.{RetryPut, retry_take};
 ghost use Rattle.rail.specs.declared.answer.Answer.TheVariants as Answer;
 ghost use Rattle.step_log.specs.declared.step.Taken.{Taken};
@@ -149,7 +149,7 @@ impl Rail for SoloRetry {
     fn put(&self, seat: &mut SoloRetrySeat, entry: &[u64]) -> Put
         requires seat { IsSeatOf self.now seat.old }
         requires width { length entry.now ≡ self.now.shape.width }
-        requires room { length seat.old.view.made < most_puts }
+        requires room { length seat.old.view.made < most_puts self.now.shape }
         ensures seat { (rail : Queue) → IsSeatOf rail seat.old → IsSeatOf rail seat.new }
         ensures takes { (rail : Queue) → IsSeatOf rail seat.old → IsSeatOf rail seat.new }
         ensures number { number_of seat.new ≡ number_of seat.old }
@@ -159,6 +159,7 @@ impl Rail for SoloRetry {
         ensures exact { RetryPut self.now.shape (length seat.old.view.made) (length seat.old.view.taken) result }
         ensures steps { (steps : List Taken) × TookSteps self.now.shape entry.now first_put steps (Answer.Put result) (told_of seat.new).found seat.old.log seat.new.log }
     {
+        let _size = self.shape.size();
         let answer = run_put::<Alone, Brand>(&self.words, &self.shape, &mut seat.seat, entry);
         count_put(&mut seat.puts, &answer);
         answer
@@ -177,6 +178,7 @@ impl Rail for SoloRetry {
         ensures exact { result ≡ retry_take (length seat.old.view.made) (length seat.old.view.taken) }
         ensures steps { (steps : List Taken) × TookSteps self.now.shape [] first_take steps (Answer.Take result) (told_of seat.new).found seat.old.log seat.new.log }
     {
+        let _size = self.shape.size();
         let answer = run_take::<Alone, Brand>(&self.words, &self.shape, &mut seat.seat, out);
         count_take(&mut seat.takes, &answer);
         answer
@@ -284,7 +286,7 @@ fn only(seats: Vec<SoloRetrySeat>) -> SoloRetrySeat
 }
 
 fn count_put(puts: &mut u64, answer: &Put)
-    requires { puts.old < most_puts }
+    requires { puts.old + 1 < 2 ^ 64 }
     ensures { puts.new ≡ puts.old + puts_in answer.now }
 {
     match answer {
@@ -294,7 +296,7 @@ fn count_put(puts: &mut u64, answer: &Put)
 }
 
 fn count_take(takes: &mut u64, answer: &Take)
-    requires { takes.old < place_span }
+    requires { takes.old + 1 < 2 ^ 64 }
     ensures { takes.new ≡ takes.old + takes_in answer.now }
 {
     match answer {

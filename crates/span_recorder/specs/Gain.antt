@@ -1,5 +1,7 @@
 -- What the lists of a seat gain.
-use Rattle.std.specs.Prelude.{◌≡◌, ℕ, List, ◌++◌, map}
+use Rattle.std.specs.Prelude.{◌≡◌, ℕ, ◌+◌, ◌≤◌, List, ◌++◌, length, map}
+use Rattle.rail.specs.declared.answer.Put.{Put}
+use Rattle.rail.specs.declared.answer.Put.TheVariants as put
 use Rattle.rail.specs.declared.entry.Placed.{Placed}
 use Rattle.rail.specs.Items.{IsRising, placed, places}
 use Rattle.rail.specs.Rail.{Gains}
@@ -23,3 +25,9 @@ pub record Notes (old new : List Placed) (events : List SpanEvent) : Type 0 wher
   pub gained : new ≡ old ++ items
   pub spelled : map (λ (i : Placed). i.words) items ≡ map spelling events
   pub rising : IsRising (places old) → IsRising (places new)
+
+-- what was taken after a put answered so: nothing, or at most one entry where the queue was full
+abbrev pub TakesIfFull : Put → List Placed → List Placed → Type 0
+TakesIfFull (put.Ok place) old new = new ≡ old
+TakesIfFull (put.Busy why) old new = new ≡ old
+TakesIfFull (put.Full head consumed) old new = length new ≤ length old + 1

@@ -1,8 +1,8 @@
 ghost use Rattle.std.specs.Prelude.{◌≡◌};
-ghost use Rattle.span_words.specs.Span.{spelling};
+ghost use Rattle.span_words.specs.Span.{spelling, event_of};
 ghost use Rattle.span_words.specs.declared.span.SpanEvent.{SpanEvent};
 
-/// No two spans have one spelling.
-pub fn spellings_differ()
-    ensures { (event other : SpanEvent) → spelling event ≡ spelling other → event ≡ other }
+/// The numbers of a span tell it, so no two spans have one spelling.
+pub fn spelling_tells_span()
+    ensures { (event : SpanEvent) → event_of (spelling event) ≡ event }
 {}

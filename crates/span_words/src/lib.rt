@@ -4,5 +4,7 @@
 mod laws;
 mod span;
 
-pub use laws::spellings_differ;
-pub use span::{SPAN_WORDS, SpanEvent, SpanKind, WordsError, decode, encode};
+pub use laws::spelling_tells_span;
+pub use span::{
+    MOST_WORKERS, SHORT_SPAN_WORDS, SPAN_WORDS, SpanEvent, SpanKind, WordsError, decode, encode,
+};

@@ -1,6 +1,7 @@
 -- A text that is on its way to a sink: some of it is there, some waits, and the rest is still to come.
-use Rattle.std.proofs.Common.{◌≡◌, ℕ, ◌+◌, ◌≤◌, List, [], ◌++◌, length, take, Option, Some, None, refl, sym, ap, ◌∙◌, arith, append-nil, append_assoc, length-append}
-use Rattle.std.proofs.Math.Seq.{take-append-add}
+use Rattle.std.proofs.Common.{◌≡◌, ℕ, ◌+◌, ◌<◌, ◌≤◌, List, [], ◌++◌, length, take, Option, Some, None, refl, sym, ap, ◌∙◌, arith, append-nil, append_assoc, length-append}
+use Rattle.std.specs.Prelude.{Result, Ok, Err, OnErr}
+use Rattle.std.proofs.Math.Seq.{take-append-add, take-append_seam}
 use Rattle.std.proofs.lemmas.List.{take-append-le}
 use Rattle.flow_io.specs.Flow.{gained, GainedPart}
 use Rattle.trace_json.specs.Trace.{HandsOver}
@@ -46,3 +47,19 @@ pending_part told now next waiting rest whole p g = (
   g.2 ∙ ap (λ t. gained t (take g.0 waiting)) p.1 ∙ gained-gained told p.0 (take g.0 waiting)
       ∙ ap (gained told) (sym (take_within p.0 waiting rest g.0 (omega (arith, g.1))) ∙ ap (take (length p.0 + g.0)) p.2),
 )
+
+-- nothing was taken, and something is to come
+pub pending_none : (told : Option (List ℕ)) (whole : List ℕ) → 0 < length whole → GainedPart told told whole
+pending_none told whole some = (0, some, sym (gained-nil told))
+
+-- some of it was taken, and something is to come
+pub pending_short : (told now : Option (List ℕ)) (waiting rest whole : List ℕ) → Pending told now waiting rest whole → 0 < length rest → GainedPart told now whole
+pending_short told now waiting rest whole p some = (
+  length p.0,
+  omega (arith, some, ap length p.2, length-append p.0 (waiting ++ rest), length-append waiting rest),
+  p.1 ∙ ap (gained told) (sym (take-append_seam p.0 (waiting ++ rest)) ∙ ap (take (length p.0)) p.2),
+)
+
+pub on_err_always : {T E P : Type 0} (r : Result T E) → P → OnErr r P
+on_err_always (Ok x) p = tt
+on_err_always (Err e) p = p

@@ -11,13 +11,24 @@ use word_text::Text;
 fn piece_args(alloc: Global, event: &SpanEvent) -> Result<Value, AllocError>
     ensures { IfOk result (λ v. view v ≡ object (piece_args event.now)) }
 {
-    json!(in alloc; {"file": event.file, "piece": event.piece, "words": event.words})
+    json!(in alloc; {
+        "depth": event.depth,
+        "file": event.file,
+        "piece": event.piece,
+        "total": event.total,
+        "words": event.words
+    })
 }
 
 fn worker_args(alloc: Global, event: &SpanEvent) -> Result<Value, AllocError>
     ensures { IfOk result (λ v. view v ≡ object (worker_args event.now)) }
 {
-    json!(in alloc; {"pieces": event.piece, "words": event.words})
+    json!(in alloc; {
+        "depth": event.depth,
+        "pieces": event.piece,
+        "total": event.total,
+        "words": event.words
+    })
 }
 
 fn complete_event(

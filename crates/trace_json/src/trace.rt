@@ -1,9 +1,8 @@
-ghost use Rattle.std.specs.Prelude.{◌≡◌, ℕ, ◌<◌, ◌≤◌, true, false, if◌then◌else◌, List, [], ◌++◌, All, length, map, string_bytes, IfErr, IsErrOf, OnOk, OnErr};
+ghost use Rattle.std.specs.Prelude.{◌≡◌, ◌<◌, ◌≤◌, [], ◌++◌, All, length, map, string_bytes, IfErr, IsErrOf, OnOk, OnErr};
 ghost use Rattle.flow_io.specs.Flow.{Rose, gained, GainedPart};
-ghost use Rattle.serde_json.specs.Written.{comma_if};
-ghost use Rattle.trace_json.specs.Trace.{text_of_event, trace_text, head_text, HasFile, HandsOver};
+ghost use Rattle.trace_json.specs.Trace.{trace_text, head_text, HasFile, HandsOver};
 
-use crate::event_text;
+use crate::entries::{push_span, push_threads};
 use flow_io::{Sink, write_all};
 use itoa::Buffer;
 use span_words::SpanEvent;
@@ -59,6 +58,7 @@ fn hand_over_full<O: Sink>(sink: &mut O, text: &mut Vec<u8>) -> Result<(), Trace
     ensures beside { O.beside sink.new ≡ O.beside sink.old }
     ensures ok { OnOk result
         (HandsOver (O.told sink.old) (O.told sink.new) text.old.items text.new.items) }
+    ensures short { OnOk result (length text.new.items < FULL) }
     ensures kind { IfErr result (λ e. e ≡ TraceError.Fault) }
     ensures part { OnErr result (GainedPart (O.told sink.old) (O.told sink.new) text.old.items) }
     ensures cause { OnErr result (Rose (O.faults sink.old) (O.faults sink.new)) }
@@ -80,24 +80,6 @@ fn push_head(text: &mut Vec<u8>, accepted: u64, kept: usize) -> Result<(), Alloc
     Ok(())
 }
 
-fn push_event(
-    alloc: Global,
-    text: &mut Vec<u8>,
-    later: bool,
-    event: &SpanEvent,
-    files: &[String],
-) -> Result<(), AllocError>
-    requires { HasFile (length files.now) event.now }
-    ensures { OnOk result (text.new.items
-        ≡ text.old.items ++ (comma_if later ++ text_of_event (map string_bytes files.now) event.now)) }
-{
-    if later {
-        text.push(b',')?;
-    }
-    text.extend_from_slice(event_text(alloc, event, files)?.bytes())?;
-    Ok(())
-}
-
 /// Writes the trace of these spans, of so many that were accepted.
 pub fn write_trace<O: Sink>(
     alloc: Global,
@@ -115,20 +97,16 @@ pub fn write_trace<O: Sink>(
 
     ensures ok { OnOk result (O.told sink.new
         ≡ gained (O.told sink.old) (trace_text (map string_bytes files.now) accepted events.now)) }
+    ensures part { OnErr result (GainedPart (O.told sink.old) (O.told sink.new)
+        (trace_text (map string_bytes files.now) accepted events.now)) }
     ensures cause { IsErrOf result TraceError.Fault
         → Rose (O.faults sink.old) (O.faults sink.new) }
-    ensures fault { IsErrOf result TraceError.Fault
-        → GainedPart (O.told sink.old) (O.told sink.new)
-        (trace_text (map string_bytes files.now) accepted events.now) }
-    ensures memory { IsErrOf result TraceError.Memory
-        → (part : List ℕ) × (left : List ℕ)
-        × (part ++ left ≡ trace_text (map string_bytes files.now) accepted events.now)
-        × (O.told sink.new ≡ gained (O.told sink.old) part) }
 {
     let mut text = Vec::with_capacity(alloc, FULL)?;
     push_head(&mut text, accepted, events.len())?;
+    push_threads(alloc, &mut text, events)?;
     for (index, event) in events.iter().enumerate() {
-        push_event(alloc, &mut text, index > 0, event, files)?;
+        push_span(alloc, &mut text, index > 0, event, files)?;
         hand_over_full(sink, &mut text)?;
     }
     text.extend_from_slice(b"]}\n")?;

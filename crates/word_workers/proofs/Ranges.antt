@@ -15,7 +15,7 @@ use Rattle.word_text.proofs.Totals.{total-add_all, total-empty}
 use Rattle.word_text.specs.declared.plan.Piece.{Piece}
 use Rattle.word_text.specs.Words.{words_of}
 use Rattle.word_text.specs.Pieces.{plan_bytes}
-use Rattle.word_workers.specs.Spans.{plan_words, words_at}
+use Rattle.word_workers.specs.Spans.{plan_words, word_total, words_at}
 
 -- one number more at the end of a range
 pub range_more : (a n j : ℕ) → a + n ≡ j → range_with_len a (n + 1) ≡ range_with_len a n ++ j ∷ []
@@ -64,25 +64,25 @@ joined_next m own both xs ys e x y = e ∙ ap (λ (n : Numbers). merged n own) x
 -- these pieces were counted, and have so many words
 pub record IsCountOf (plan : List Piece) (texts : List (List ℕ)) (drawn : List ℕ) (counts : Numbers) (words : ℕ) : Type 0 where
   pub counts_are : counts ≡ add_all map_of.empty (flat_map (words_at plan texts) drawn)
-  pub words_are : words ≡ sum_by (λ n. length (words_at plan texts n)) drawn
+  pub words_are : words ≡ word_total plan texts drawn
 
 pub count_none : (plan : List Piece) (texts : List (List ℕ)) (drawn : List ℕ) (counts : Numbers) → drawn ≡ [] → counts ≡ map_of.empty → IsCountOf plan texts drawn counts 0
 count_none plan texts drawn counts none empty =
     let one : IsCountOf plan texts [] counts 0 = record { counts_are = empty; words_are = refl } in
     subst (λ (t : List ℕ). IsCountOf plan texts t counts 0) (sym none) one
 
-pub count_more : (plan : List Piece) (texts : List (List ℕ)) (drawn more : List ℕ) (n : ℕ) (counts new : Numbers) (words found : ℕ) → IsCountOf plan texts drawn counts words
-    → new ≡ add_all counts (words_at plan texts n) → found ≡ length (words_at plan texts n) → more ≡ drawn ++ n ∷ [] → IsCountOf plan texts more new (words + found)
-count_more plan texts drawn more n counts new words found c is len e =
+pub count_more : (plan : List Piece) (texts : List (List ℕ)) (drawn more : List ℕ) (n : ℕ) (counts new : Numbers) (words total : ℕ) → IsCountOf plan texts drawn counts words
+    → new ≡ add_all counts (words_at plan texts n) → total ≡ words + length (words_at plan texts n) → more ≡ drawn ++ n ∷ [] → IsCountOf plan texts more new total
+count_more plan texts drawn more n counts new words total c is len e =
     let f : ℕ → ℕ = λ k. length (words_at plan texts k) in
     let split : flat_map (words_at plan texts) (drawn ++ n ∷ []) ≡ flat_map (words_at plan texts) drawn ++ words_at plan texts n =
     flat_map-append (words_at plan texts) drawn (n ∷ []) ∙ ap (λ (t : List (List ℕ)). flat_map (words_at plan texts) drawn ++ t) (append-nil (words_at plan texts n)) in
     let sums : sum_by f (drawn ++ n ∷ []) ≡ sum_by f drawn + f n = sum_by-append f drawn (n ∷ []) ∙ ap (λ (k : ℕ). sum_by f drawn + k) (let one : sum_by f (n ∷ []) ≡ f n = omega arith in one) in
-    let all : IsCountOf plan texts (drawn ++ n ∷ []) new (words + found) = record {
+    let all : IsCountOf plan texts (drawn ++ n ∷ []) new total = record {
       counts_are = is ∙ ap (λ (m : Numbers). add_all m (words_at plan texts n)) c.counts_are ∙ sym (add_all-append map_of.empty (flat_map (words_at plan texts) drawn) (words_at plan texts n)) ∙ ap (λ (t : List (List ℕ)). add_all map_of.empty t) (sym split);
-      words_are = ap (λ (k : ℕ). k + found) c.words_are ∙ ap (λ (k : ℕ). sum_by f drawn + k) len ∙ sym sums;
+      words_are = len ∙ ap (λ (k : ℕ). k + f n) c.words_are ∙ sym sums;
     } in
-    subst (λ (t : List ℕ). IsCountOf plan texts t new (words + found)) (sym e) all
+    subst (λ (t : List ℕ). IsCountOf plan texts t new total) (sym e) all
 
 pub total_count : (plan : List Piece) (texts : List (List ℕ)) (drawn : List ℕ) (counts : Numbers) (words : ℕ) → IsCountOf plan texts drawn counts words → total counts ≡ words
 total_count plan texts drawn counts words c =

@@ -17,7 +17,9 @@ use Rattle.rail.specs.Outcome.{numbers_below}
 use Rattle.rail.proofs.Rising.{rising_filter, rising_range}
 use Rattle.span_words.specs.declared.span.SpanEvent.{SpanEvent}
 use Rattle.span_words.specs.Span.{spelling}
+use Rattle.span_recorder.specs.Events.{events_of}
 use Rattle.span_recorder.specs.Gain.{GainAlike}
+use Rattle.span_recorder.proofs.Gains.{events_spelled}
 use Rattle.word_text.specs.declared.plan.Piece.{Piece}
 use Rattle.word_text.specs.Counts.{Numbers, add_all, total}
 use Rattle.word_text.proofs.Totals.{total-add_all, total-empty}
@@ -74,14 +76,14 @@ counts_whole plan texts counts next c e = c ∙ ap (add_all map_of.empty) (ap (�
 pub length-worked : (plan : List Piece) (texts : List (List ℕ)) (told : Option Ticks) (w : ℕ) (mine : List ℕ) (made new : List Placed) → Worked plan texts told w mine made new → length new ≡ length made + length mine + 1
 length-worked plan texts told w mine made new k =
     let spans : length (spans_of plan texts w mine k.readings) ≡ length mine + 1 =
-    length-append (map (span_at plan texts w k.readings) (enumerate_from 0 mine)) (worker_span plan texts w mine (get_or k.readings 0 0) (get_or k.readings (2 * length mine + 1) 0) ∷ [])
-    ∙ ap (λ (n : ℕ). n + 1) (length-map (enumerate_from 0 mine) (span_at plan texts w k.readings) ∙ length-enumerate_from 0 mine) in
+    length-append (map (span_at plan texts w mine k.readings) (enumerate_from 0 mine)) (worker_span plan texts w mine (get_or k.readings 0 0) (get_or k.readings (2 * length mine + 1) 0) ∷ [])
+    ∙ ap (λ (n : ℕ). n + 1) (length-map (enumerate_from 0 mine) (span_at plan texts w mine k.readings) ∙ length-enumerate_from 0 mine) in
     let same : length k.notes.items ≡ length (spans_of plan texts w mine k.readings) =
     sym (length-map k.notes.items (λ (i : Placed). i.words)) ∙ ap (λ (t : List (List ℕ)). length t) k.notes.spelled ∙ length-map (spans_of plan texts w mine k.readings) spelling in
     let gained : length new ≡ length made + length k.notes.items = ap (λ (t : List Placed). length t) k.notes.gained ∙ length-append made k.notes.items in
     omega arith
 
-module _ (plan : List Piece) (texts : List (List ℕ)) (ticks : Option Ticks) where
+module _ (plan : List Piece) (texts : List (List ℕ)) (clock : ℕ → Option Ticks) where
   -- so many workers drew these numbers, up to this one, and their spans were made
   pub record HasRun (workers : ℕ) (drawn : List (List ℕ)) (made : List Placed) (next : ℕ) : Type 0 where
     pub number : length drawn ≡ workers
@@ -90,7 +92,7 @@ module _ (plan : List Piece) (texts : List (List ℕ)) (ticks : Option Ticks) wh
     pub all_spans : All (λ (i : Placed). IsSpanOfSome workers i.words) made
     pub files : All (λ (i : Placed). NamesText (length texts) i.words) made
     pub in_order : IsRising (places made)
-    pub spans : (v : ℕ) → v < workers → HasSpans plan texts ticks v (get_or drawn v []) made
+    pub spans : (v : ℕ) → v < workers → HasSpans plan texts (clock v) v (get_or drawn v []) made
 
   pub run_none : (drawn : List (List ℕ)) (made : List Placed) → drawn ≡ [] → made ≡ [] → HasRun 0 drawn made 0
   run_none drawn made d m =
@@ -106,8 +108,8 @@ module _ (plan : List Piece) (texts : List (List ℕ)) (ticks : Option Ticks) wh
       let two : HasRun 0 drawn [] 0 = subst (λ (t : List (List ℕ)). HasRun 0 t [] 0) (sym d) one in
       subst (λ (t : List Placed). HasRun 0 drawn t 0) (sym m) two
 
-  readings_told : (told : Option Ticks) (readings : List ℕ) (count : ℕ) → IfSome ticks (λ t. told ≡ Some t) → AreReadings told readings count → AreReadings ticks readings count
-  readings_told told readings count h a = record { number = a.number; most = a.most; told = if_told ticks told (λ (t : Ticks). (j : ℕ) → j < count → get_or readings j 0 ≡ reading_at t j) h a.told }
+  readings_told : (w : ℕ) (told : Option Ticks) (readings : List ℕ) (count : ℕ) → IfSome (clock w) (λ t. told ≡ Some t) → AreReadings told readings count → AreReadings (clock w) readings count
+  readings_told w told readings count h a = record { number = a.number; most = a.most; told = if_told (clock w) told (λ (t : Ticks). (j : ℕ) → j < count → get_or readings j 0 ≡ reading_at t j) h a.told }
 
   more_workers : (w : ℕ) (made : List Placed) → All (λ (i : Placed). IsSpanOfSome w i.words) made → All (λ (i : Placed). IsSpanOfSome (w + 1) i.words) made
   more_workers w made a k d lt = let s = a k d lt in record { event = s.event; tid_some = s.tid_some; tid_most = let m = s.tid_most in omega arith; spelled = s.spelled }
@@ -121,26 +123,26 @@ module _ (plan : List Piece) (texts : List (List ℕ)) (ticks : Option Ticks) wh
       is_of_event w (get_or made k d) s.event s.spelled ∙ other))
 
   spans_longer : (v w : ℕ) (drawn : List ℕ) (made items new : List Placed) (es : List SpanEvent) → v < w → new ≡ made ++ items → map (λ (i : Placed). i.words) items ≡ map spelling es → AllByRecursion (λ (e : SpanEvent). e.tid ≡ w + 1) es
-      → HasSpans plan texts ticks v drawn made → HasSpans plan texts ticks v drawn new
+      → HasSpans plan texts (clock v) v drawn made → HasSpans plan texts (clock v) v drawn new
   spans_longer v w drawn made items new es lt e s own h =
       let none : filter (is_of v) items ≡ [] = filter_none (is_of v) items (owned (λ (i : Placed). is_of v i ≡ false) (λ (e : SpanEvent). e.tid ≡ w + 1) items es (λ i x is t.
       let other : (x.tid == v + 1) ≡ false = grind (arith, nat_tests) in is_of_event v i x is ∙ other) s own) in
       let kept : filter (is_of v) new ≡ filter (is_of v) made =
       ap (filter (is_of v)) e ∙ filter-append (is_of v) made items ∙ ap (λ (t : List Placed). filter (is_of v) made ++ t) none ∙ append-nil (filter (is_of v) made) in
-      record { readings = h.readings; are_readings = h.are_readings; spelled = ap (λ (t : List Placed). map (λ (i : Placed). i.words) t) kept ∙ h.spelled }
+      record { readings = h.readings; are_readings = h.are_readings; spans = ap events_of kept ∙ h.spans }
 
-  spans_next : (w : ℕ) (told : Option Ticks) (mine : List ℕ) (made new : List Placed) → IfSome ticks (λ t. told ≡ Some t) → All (λ (i : Placed). IsSpanOfSome w i.words) made
-      → Worked plan texts told w mine made new → HasSpans plan texts ticks w mine new
+  spans_next : (w : ℕ) (told : Option Ticks) (mine : List ℕ) (made new : List Placed) → IfSome (clock w) (λ t. told ≡ Some t) → All (λ (i : Placed). IsSpanOfSome w i.words) made
+      → Worked plan texts told w mine made new → HasSpans plan texts (clock w) w mine new
   spans_next w told mine made new h a k =
       let items = k.notes.items in
       let whole : filter (is_of w) items ≡ items = filter_whole (is_of w) items (owned (λ (i : Placed). is_of w i ≡ true) (λ (e : SpanEvent). e.tid ≡ w + 1) items (spans_of plan texts w mine k.readings) (λ i x is t.
       let same : (x.tid == w + 1) ≡ true = grind (arith, nat_tests) in is_of_event w i x is ∙ same) k.notes.spelled (spans_own plan texts w k.readings mine)) in
       let kept : filter (is_of w) new ≡ items =
       ap (filter (is_of w)) k.notes.gained ∙ filter-append (is_of w) made items ∙ ap (λ (t : List Placed). t ++ filter (is_of w) items) (none_of_next w made a) ∙ whole in
-      record { readings = k.readings; are_readings = readings_told told k.readings (2 * length mine + 2) h k.are_readings; spelled = ap (λ (t : List Placed). map (λ (i : Placed). i.words) t) kept ∙ k.notes.spelled }
+      record { readings = k.readings; are_readings = readings_told w told k.readings (2 * length mine + 2) h k.are_readings; spans = ap events_of kept ∙ events_spelled items (spans_of plan texts w mine k.readings) k.notes.spelled }
 
   -- one worker more ran
-  pub run_more : (w : ℕ) (told : Option Ticks) (drawn more : List (List ℕ)) (mine : List ℕ) (made new : List Placed) (next end after : ℕ) → AllLieIn texts plan → end ≡ length plan → HasRun w drawn made next → IfSome ticks (λ t. told ≡ Some t) → Worked plan texts told w mine made new
+  pub run_more : (w : ℕ) (told : Option Ticks) (drawn more : List (List ℕ)) (mine : List ℕ) (made new : List Placed) (next end after : ℕ) → AllLieIn texts plan → end ≡ length plan → HasRun w drawn made next → IfSome (clock w) (λ t. told ≡ Some t) → Worked plan texts told w mine made new
       → mine ≡ range_with_len next (end - next) → next ≤ end → after ≡ end → more ≡ drawn ++ mine ∷ [] → HasRun (w + 1) more new after
   run_more w told drawn more mine made new next end after inside all r h k is low same e =
       let es = spans_of plan texts w mine k.readings in
@@ -158,16 +160,16 @@ module _ (plan : List Piece) (texts : List (List ℕ)) (ticks : Option Ticks) wh
         all_spans = subst (All P) (sym k.notes.gained) (All-append P made k.notes.items (more_workers w made r.all_spans) here);
         files = subst (All N) (sym k.notes.gained) (All-append N made k.notes.items r.files named);
         in_order = k.notes.rising r.in_order;
-        spans = below_more (λ (v : ℕ). HasSpans plan texts ticks v (get_or (drawn ++ mine ∷ []) v []) new) w
-            (λ v lt. subst (λ (t : List ℕ). HasSpans plan texts ticks v t new) (sym (get_or_append_left drawn (mine ∷ []) [] v (let n = r.number in omega arith))) (spans_longer v w (get_or drawn v []) made k.notes.items new es lt k.notes.gained k.notes.spelled own (r.spans v lt)))
+        spans = below_more (λ (v : ℕ). HasSpans plan texts (clock v) v (get_or (drawn ++ mine ∷ []) v []) new) w
+            (λ v lt. subst (λ (t : List ℕ). HasSpans plan texts (clock v) v t new) (sym (get_or_append_left drawn (mine ∷ []) [] v (let n = r.number in omega arith))) (spans_longer v w (get_or drawn v []) made k.notes.items new es lt k.notes.gained k.notes.spelled own (r.spans v lt)))
             (let at : get_or (drawn ++ mine ∷ []) w [] ≡ mine = ap (λ (j : ℕ). get_or (drawn ++ mine ∷ []) j []) (sym r.number) ∙ get_or-append_seam drawn mine [] [] in
-            subst (λ (t : List ℕ). HasSpans plan texts ticks w t new) (sym at) (spans_next w told mine made new h r.all_spans k));
+            subst (λ (t : List ℕ). HasSpans plan texts (clock w) w t new) (sym at) (spans_next w told mine made new h r.all_spans k));
       } in
       let two : HasRun (w + 1) more new end = subst (λ (t : List (List ℕ)). HasRun (w + 1) t new end) (sym e) one in
       subst (HasRun (w + 1) more new) (sym same) two
 
   -- all workers ran, and drew all numbers
-  pub run_all_made : (workers : ℕ) (drawn : List (List ℕ)) (made : List Placed) → HasRun workers drawn made (length plan) → RunMakes made drawn workers plan texts ticks
+  pub run_all_made : (workers : ℕ) (drawn : List (List ℕ)) (made : List Placed) → HasRun workers drawn made (length plan) → RunMakes made drawn workers plan texts clock
   run_all_made workers drawn made r = record {
     number = r.number;
     rising = r.rising;
@@ -177,7 +179,7 @@ module _ (plan : List Piece) (texts : List (List ℕ)) (ticks : Option Ticks) wh
     spans = r.spans;
   }
 
-  pub run_ended : (worker workers : ℕ) (drawn : List (List ℕ)) (made together : List Placed) (next : ℕ) → HasRun worker drawn made next → worker ≡ workers → next ≡ length plan → together ≡ made → RunMakes together drawn workers plan texts ticks
+  pub run_ended : (worker workers : ℕ) (drawn : List (List ℕ)) (made together : List Placed) (next : ℕ) → HasRun worker drawn made next → worker ≡ workers → next ≡ length plan → together ≡ made → RunMakes together drawn workers plan texts clock
   run_ended worker workers drawn made together next r same all e =
       let one : HasRun workers drawn made next = subst (λ (w : ℕ). HasRun w drawn made next) same r in
       let two : HasRun workers drawn made (length plan) = subst (HasRun workers drawn made) all one in
@@ -189,5 +191,5 @@ batches_more items batches more batch old new so_far g e =
     ap (flat_map items) e ∙ flat_map-append items batches (batch ∷ []) ∙ ap (λ (t : List Placed). t ++ (items batch ++ [])) so_far
     ∙ ap (λ (t : List Placed). old ++ t) (append-nil (items batch) ∙ g.gained_other) ∙ sym g.gained
 
-pub files_together : (plan : List Piece) (texts : List (List ℕ)) (ticks : Option Ticks) (workers : ℕ) (drawn : List (List ℕ)) (made together : List Placed) (next : ℕ) → HasRun plan texts ticks workers drawn made next → together ≡ made → All (λ (i : Placed). NamesText (length texts) i.words) together
-files_together plan texts ticks workers drawn made together next r e = subst (All (λ (i : Placed). NamesText (length texts) i.words)) (sym e) r.files
+pub files_together : (plan : List Piece) (texts : List (List ℕ)) (clock : ℕ → Option Ticks) (workers : ℕ) (drawn : List (List ℕ)) (made together : List Placed) (next : ℕ) → HasRun plan texts clock workers drawn made next → together ≡ made → All (λ (i : Placed). NamesText (length texts) i.words) together
+files_together plan texts clock workers drawn made together next r e = subst (All (λ (i : Placed). NamesText (length texts) i.words)) (sym e) r.files

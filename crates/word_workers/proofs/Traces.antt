@@ -11,10 +11,10 @@ use Rattle.rail.specs.declared.entry.Placed.{Placed}
 use Rattle.rail.specs.Items.{IsRising, places}
 use Rattle.rail.specs.Outcome.{IsAccepted, numbers_below}
 use Rattle.rail.proofs.Rising.{head_or_rest, here, later, rising_accepted, rising_filter, rising_same}
+use Rattle.span_recorder.specs.Events.{events_of}
 use Rattle.word_text.specs.declared.plan.Piece.{Piece}
-use Rattle.word_workers.specs.Spans.{spans_of}
-use Rattle.word_workers.specs.Trace.{HasSpans, IsSpanOfSome, RunMakes, RunTrace, is_of, pieces_by}
-use Rattle.word_workers.proofs.Owners.{filter_both, of_piece, pieces_spelled, spans_pieces}
+use Rattle.word_workers.specs.Trace.{HasSpans, IsSpanOfSome, RunMakes, RunTrace, is_of, pieces_by, pieces_in}
+use Rattle.word_workers.proofs.Owners.{spans_pieces}
 use Rattle.word_workers.proofs.Ranges.{flat_map-get_or}
 
 -- an element that passes the test is kept
@@ -50,20 +50,17 @@ flat_map-same_below f g a zero e = refl
 flat_map-same_below f g a (suc n) e =
     ap (λ t. t ++ flat_map f (range_with_len (a + 1) n)) (e a (omega arith)) ∙ ap (λ t. g a ++ t) (flat_map-same_below f g (a + 1) n (λ k lt. e k (omega arith)))
 
-module _ (made accepted : List Placed) (drawn : List (List ℕ)) (workers : ℕ) (plan : List Piece) (texts : List (List ℕ)) (ticks : Option Ticks) where
+module _ (made accepted : List Placed) (drawn : List (List ℕ)) (workers : ℕ) (plan : List Piece) (texts : List (List ℕ)) (clock : ℕ → Option Ticks) where
   -- the accepted entries of a worker name the pieces that it counted
-  pieces_are : (w : ℕ) → HasSpans plan texts ticks w (get_or drawn w []) accepted → pieces_by w accepted ≡ get_or drawn w []
-  pieces_are w h =
-      ap (λ (t : List Placed). map (λ (i : Placed). get_or i.words 4 0) t) (sym (filter_both (is_of w) of_piece accepted))
-      ∙ pieces_spelled (filter (is_of w) accepted) (spans_of plan texts w (get_or drawn w []) h.readings) h.spelled
-      ∙ spans_pieces plan texts w h.readings (get_or drawn w [])
+  pieces_are : (w : ℕ) → HasSpans plan texts (clock w) w (get_or drawn w []) accepted → pieces_by w accepted ≡ get_or drawn w []
+  pieces_are w h = ap pieces_in h.spans ∙ spans_pieces plan texts w h.readings (get_or drawn w [])
 
-  spans_accepted : (w : ℕ) → w < workers → IsAccepted made accepted → RunMakes made drawn workers plan texts ticks → HasSpans plan texts ticks w (get_or drawn w []) accepted
+  spans_accepted : (w : ℕ) → w < workers → IsAccepted made accepted → RunMakes made drawn workers plan texts clock → HasSpans plan texts (clock w) w (get_or drawn w []) accepted
   spans_accepted w lt a r =
       let s = r.spans w lt in
-      record { readings = s.readings; are_readings = s.are_readings; spelled = ap (λ (t : List Placed). map (λ (i : Placed). i.words) t) (filter_accepted (is_of w) made accepted a (r.in_order w lt)) ∙ s.spelled }
+      record { readings = s.readings; are_readings = s.are_readings; spans = ap events_of (filter_accepted (is_of w) made accepted a (r.in_order w lt)) ∙ s.spans }
 
-  pub trace_of_run : RunMakes made drawn workers plan texts ticks → IsAccepted made accepted → RunTrace accepted workers plan texts ticks
+  pub trace_of_run : RunMakes made drawn workers plan texts clock → IsAccepted made accepted → RunTrace accepted workers plan texts clock
   trace_of_run r a =
       let spans = λ (w : ℕ) (lt : w < workers). spans_accepted w lt a r in
       let named = λ (w : ℕ) (lt : w < workers). pieces_are w (spans w lt) in
@@ -74,5 +71,5 @@ module _ (made accepted : List Placed) (drawn : List (List ℕ)) (workers : ℕ)
         all_spans = All-permutation (λ (i : Placed). IsSpanOfSome workers i.words) made accepted a.all_made r.all_spans;
         rising = λ w lt. subst IsRising (sym (named w lt)) (r.rising w [] (let n = r.number in omega arith));
         each_once = subst (λ (t : List ℕ). IsPermutation t (numbers_below (length plan))) (sym all) r.each_once;
-        spans = λ w lt. subst (λ (ns : List ℕ). HasSpans plan texts ticks w ns accepted) (sym (named w lt)) (spans w lt);
+        spans = λ w lt. subst (λ (ns : List ℕ). HasSpans plan texts (clock w) w ns accepted) (sym (named w lt)) (spans w lt);
       }

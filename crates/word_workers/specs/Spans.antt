@@ -1,5 +1,5 @@
 -- What a worker counts and notes, by the numbers of its pieces.
-use Rattle.std.specs.Prelude.{◌≡◌, ℕ, ◌+◌, ◌*◌, ◌<◌, ◌≤◌, List, [], ◌∷◌, ◌++◌, length, map, flat_map, sum_by, slice_index, slice_index_or, Option, IfSome}
+use Rattle.std.specs.Prelude.{◌≡◌, ℕ, ◌+◌, ◌*◌, ◌<◌, ◌≤◌, List, [], ◌∷◌, ◌++◌, length, map, take, flat_map, sum_by, slice_index, slice_index_or, Option, IfSome}
 use Rattle.std.specs.List.{All, enumerate_from}
 use Rattle.flow_io.specs.Clock.{Ticks, last_reading, reading_at}
 use Rattle.span_words.specs.declared.span.SpanKind.TheVariants.{Worker, Piece as PieceKind}
@@ -7,11 +7,17 @@ use Rattle.span_words.specs.declared.span.SpanEvent.{SpanEvent}
 use Rattle.span_words.specs.Span.{duration}
 use Rattle.word_text.specs.declared.plan.Piece.{Piece}
 use Rattle.word_text.specs.Words.{words_of}
-use Rattle.word_text.specs.Pieces.{LiesIn, plan_bytes}
+use Rattle.word_text.specs.Pieces.{plan_bytes}
+
+-- the piece is a range of the text that it names
+pub record LiesInText (texts : List (List ℕ)) (p : Piece) : Type 0 where
+  pub there : p.file < length texts
+  pub ordered : p.start ≤ p.end
+  pub within : p.end ≤ length (slice_index_or texts p.file [])
 
 -- each piece lies in its text
 abbrev pub AllLieIn : List (List ℕ) → List Piece → Type 0
-AllLieIn texts plan = All (λ (p : Piece). LiesIn (slice_index_or texts p.file []) p.file p) plan
+AllLieIn texts plan = All (LiesInText texts) plan
 
 -- the piece of this number
 abbrev pub piece_at : List Piece → ℕ → Piece
@@ -25,28 +31,33 @@ words_at plan texts n = words_of (plan_bytes texts (piece_at plan n))
 abbrev pub plan_words : List Piece → List (List ℕ) → List (List ℕ)
 plan_words plan texts = flat_map (λ (p : Piece). words_of (plan_bytes texts p)) plan
 
+-- how many words the pieces of these numbers have together
+abbrev pub word_total : List Piece → List (List ℕ) → List ℕ → ℕ
+word_total plan texts drawn = sum_by (λ n. length (words_at plan texts n)) drawn
+
 -- so many readings of a hand: those that it tells, or where it tells none, any up to the greatest
 pub record AreReadings (ticks : Option Ticks) (readings : List ℕ) (count : ℕ) : Type 0 where
   pub number : length readings ≡ count
   pub most : All (λ r. r ≤ last_reading) readings
   pub told : IfSome ticks (λ t. (j : ℕ) → j < count → slice_index readings j ≡ reading_at t j)
 
--- the span of a piece that this worker counted between two readings
-abbrev pub piece_span : List Piece → List (List ℕ) → ℕ → ℕ → ℕ → ℕ → SpanEvent
-piece_span plan texts worker n before after =
-    record { kind = PieceKind; tid = worker + 1; ts = before; dur = duration before after; file = (piece_at plan n).file; piece = n; words = length (words_at plan texts n) }
+-- the span of a piece that this worker counted between two readings, with the total of its words up to that piece
+abbrev pub piece_span : List Piece → List (List ℕ) → ℕ → ℕ → ℕ → ℕ → ℕ → SpanEvent
+piece_span plan texts worker n total before after =
+    record { kind = PieceKind; tid = worker + 1; ts = before; dur = duration before after; file = (piece_at plan n).file; piece = n; words = length (words_at plan texts n); depth = 1; total = total }
 
 -- the span of a worker that counted these pieces between two readings
 abbrev pub worker_span : List Piece → List (List ℕ) → ℕ → List ℕ → ℕ → ℕ → SpanEvent
 worker_span plan texts worker drawn before after =
-    record { kind = Worker; tid = worker + 1; ts = before; dur = duration before after; file = 0; piece = length drawn; words = sum_by (λ n. length (words_at plan texts n)) drawn }
+    let words = word_total plan texts drawn in
+    record { kind = Worker; tid = worker + 1; ts = before; dur = duration before after; file = 0; piece = length drawn; words = words; depth = 0; total = words }
 
 -- the span of the i-th piece that a worker counted, by its readings
-abbrev pub span_at : List Piece → List (List ℕ) → ℕ → List ℕ → ℕ × ℕ → SpanEvent
-span_at plan texts worker readings e = piece_span plan texts worker e.1 (slice_index readings (2 * e.0 + 1)) (slice_index readings (2 * e.0 + 2))
+abbrev pub span_at : List Piece → List (List ℕ) → ℕ → List ℕ → List ℕ → ℕ × ℕ → SpanEvent
+span_at plan texts worker drawn readings e = piece_span plan texts worker e.1 (word_total plan texts (take (e.0 + 1) drawn)) (slice_index readings (2 * e.0 + 1)) (slice_index readings (2 * e.0 + 2))
 
 -- the spans of a worker that counted these pieces, by its readings: one of each piece, and its own between the first reading and the last
 abbrev pub spans_of : List Piece → List (List ℕ) → ℕ → List ℕ → List ℕ → List SpanEvent
 spans_of plan texts worker drawn readings =
-    map (span_at plan texts worker readings) (enumerate_from 0 drawn)
+    map (span_at plan texts worker drawn readings) (enumerate_from 0 drawn)
     ++ worker_span plan texts worker drawn (slice_index readings 0) (slice_index readings (2 * length drawn + 1)) ∷ []

@@ -7,8 +7,8 @@ use Rattle.span_words.specs.Span.{spelling}
 use Rattle.word_text.specs.declared.plan.Piece.{Piece}
 use Rattle.word_workers.specs.Spans.{AreReadings, piece_span, spans_of}
 
--- a piece was counted between two readings, and its span is noted
-pub record NotesPiece (plan : List Piece) (texts : List (List ℕ)) (worker n : ℕ) (old_ticks new_ticks : Option Ticks) (old new : List Placed) : Type 0 where
+-- a piece was counted between two readings, and its span is noted, with the total of the worker's words
+pub record NotesPiece (plan : List Piece) (texts : List (List ℕ)) (worker n total : ℕ) (old_ticks new_ticks : Option Ticks) (old new : List Placed) : Type 0 where
   pub before : ℕ
   pub after : ℕ
   pub between : Option Ticks
@@ -16,7 +16,7 @@ pub record NotesPiece (plan : List Piece) (texts : List (List ℕ)) (worker n : 
   pub after_most : after ≤ last_reading
   pub reads_before : Reads old_ticks between before
   pub reads_after : Reads between new_ticks after
-  pub gains : GainsEntry old new (spelling (piece_span plan texts worker n before after))
+  pub gains : GainsEntry old new (spelling (piece_span plan texts worker n total before after))
 
 -- a worker counted these pieces, and its spans are noted
 pub record Worked (plan : List Piece) (texts : List (List ℕ)) (ticks : Option Ticks) (worker : ℕ) (drawn : List ℕ) (old new : List Placed) : Type 0 where

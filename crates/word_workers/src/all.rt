@@ -11,7 +11,7 @@ use crate::numbers::Numbers;
 use crate::worker::{WorkerDone, run_worker};
 use flow_io::Clock;
 use rail::{Batch, Rail};
-use span_words::SPAN_WORDS;
+use span_words::{MOST_WORKERS, SPAN_WORDS};
 use std::alloc::{AllocError, Global};
 use std::sync::Wait;
 use std::thread::Threads;
@@ -26,7 +26,8 @@ pub struct Work<R: Rail> {
     pub seats: Vec<R::Seat>,
 }
 
-/// Counts all pieces of a plan, and notes the spans of all workers in the queue. The workers run one after another through the queue's one seat.
+/// Counts all pieces of a plan, and notes the spans of all workers in the queue. The workers run one
+/// after another through the queue's one seat.
 pub fn run_all<X: Threads + Wait + Sync, R: Rail, C: Clock, G: Gate>(
     rt: &X,
     alloc: Global,
@@ -38,7 +39,7 @@ pub fn run_all<X: Threads + Wait + Sync, R: Rail, C: Clock, G: Gate>(
     clock: &C,
     gate: &G,
 ) -> Result<Work<R>, AllocError>
-    requires workers { (1 ≤ workers) × (workers ≤ 255) }
+    requires workers { (1 ≤ workers) × (workers ≤ MOST_WORKERS) }
     requires width { (R.shape_of rail.now).width ≡ SPAN_WORDS }
     requires inside { AllLieIn texts.now plan.now }
     requires words { length (plan_words plan.now texts.now) < 2 ^ 63 }
@@ -46,15 +47,24 @@ pub fn run_all<X: Threads + Wait + Sync, R: Rail, C: Clock, G: Gate>(
     requires puts { All (R.PutsInto rail.now) seats.items }
     requires takes { All (R.TakesFrom rail.now) seats.items }
     requires fresh { All (λ seat. (R.made seat ≡ []) × (R.taken seat ≡ [])) seats.items }
-    ensures counts { IfOk result (λ work. work.counts ≡ add_all map_of.empty (plan_words plan.now texts.now)) }
-    ensures makes { IfOk result (λ work. RunMakes (flat_map R.made work.seats.items) work.drawn.items workers plan.now texts.now (C.ticks clock.now)) }
-    ensures files { IfOk result (λ work. All (λ i. NamesText (length texts.now) i.words) (flat_map R.made work.seats.items)) }
-    ensures batches { IfOk result (λ work. IsPermutation (flat_map (λ b. b.items) work.batches.items) (flat_map R.taken work.seats.items)) }
-    ensures drops { R.DROPS ≡ true → IfOk result (λ work. All (λ seat. R.taken seat ≡ []) work.seats.items) }
-    ensures numbers { IfOk result (λ work. map R.number_of work.seats.items ≡ map R.number_of seats.items) }
-    ensures puts { IfOk result (λ work. (q : R) → All (R.PutsInto q) seats.items → All (R.PutsInto q) work.seats.items) }
-    ensures takes { IfOk result (λ work. (q : R) → All (R.TakesFrom q) seats.items → All (R.TakesFrom q) work.seats.items) }
+    ensures counts { IfOk result (λ work. work.counts
+        ≡ add_all map_of.empty (plan_words plan.now texts.now)) }
+    ensures makes { IfOk result (λ work. RunMakes (flat_map R.made work.seats.items)
+        work.drawn.items workers plan.now texts.now (λ _. C.ticks clock.now)) }
+    ensures files { IfOk result (λ work. All (λ i. NamesText (length texts.now) i.words)
+        (flat_map R.made work.seats.items)) }
+    ensures batches { IfOk result (λ work. IsPermutation
+        (flat_map (λ b. b.items) work.batches.items) (flat_map R.taken work.seats.items)) }
+    ensures drops { R.DROPS ≡ true
+        → IfOk result (λ work. All (λ seat. R.taken seat ≡ []) work.seats.items) }
+    ensures numbers { IfOk result (λ work.
+        map R.number_of work.seats.items ≡ map R.number_of seats.items) }
+    ensures puts { IfOk result (λ work. (q : R)
+        → All (R.PutsInto q) seats.items → All (R.PutsInto q) work.seats.items) }
+    ensures takes { IfOk result (λ work. (q : R)
+        → All (R.TakesFrom q) seats.items → All (R.TakesFrom q) work.seats.items) }
 {
+    let _most = rail.shape().most_puts();
     let mut seats = seats;
     let Some(first) = seats.pop() else {
         unreachable!()
@@ -104,7 +114,8 @@ pub fn run_all<X: Threads + Wait + Sync, R: Rail, C: Clock, G: Gate>(
 fn joined(alloc: Global, worker: u64, counts: Counts, own: Counts) -> Result<Counts, AllocError>
     requires first { worker ≡ 0 → counts ≡ map_of.empty }
     requires room { total counts + total own < 2 ^ 63 }
-    ensures { IfOk result (λ all. (xs ys : List (List ℕ)) → counts ≡ add_all map_of.empty xs → own ≡ add_all map_of.empty ys → all ≡ add_all map_of.empty (xs ++ ys)) }
+    ensures { IfOk result (λ all. (xs ys : List (List ℕ)) → counts ≡ add_all map_of.empty xs
+        → own ≡ add_all map_of.empty ys → all ≡ add_all map_of.empty (xs ++ ys)) }
 {
     if worker == 0 {
         return Ok(own);

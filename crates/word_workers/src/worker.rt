@@ -1,12 +1,12 @@
-ghost use Rattle.std.specs.Prelude.{◌≡◌, ◌+◌, ◌-◌, ◌<◌, ◌≤◌, ◌^◌, [], ◌∷◌, ◌++◌, true, length, slice_index_or, flat_map, IfOk, OnOk};
+ghost use Rattle.std.specs.Prelude.{◌≡◌, ◌+◌, ◌-◌, ◌<◌, ◌≤◌, ◌^◌, [], ◌∷◌, ◌++◌, true, length, flat_map, IfOk, OnOk};
 ghost use Rattle.std.specs.List.{All, range_with_len};
 ghost use Rattle.std.specs.FinMap as map_of;
-ghost use Rattle.rail.specs.Rail.{most_puts};
+ghost use Rattle.cursor_word.specs.Cursor.{most_puts};
 ghost use Rattle.span_recorder.specs.Gain.{GainAlike};
 ghost use Rattle.span_words.specs.Span.{duration};
 ghost use Rattle.word_text.specs.Counts.{add_all, total};
-ghost use Rattle.word_text.specs.Pieces.{LiesIn, plan_bytes};
-ghost use Rattle.word_workers.specs.Spans.{AllLieIn, piece_at, plan_words, words_at};
+ghost use Rattle.word_text.specs.Pieces.{plan_bytes};
+ghost use Rattle.word_workers.specs.Spans.{AllLieIn, LiesInText, piece_at, plan_words, words_at};
 ghost use Rattle.word_workers.specs.Worked.{NotesPiece, Worked};
 
 use crate::drawn::Drawn;
@@ -15,7 +15,7 @@ use crate::numbers::Numbers;
 use flow_io::Hand;
 use rail::{Batch, Rail};
 use span_recorder::note_span;
-use span_words::{SPAN_WORDS, SpanEvent, SpanKind};
+use span_words::{MOST_WORKERS, SPAN_WORDS, SpanEvent, SpanKind};
 use std::alloc::{AllocError, Global};
 use std::sync::Wait;
 use word_text::{Counts, MOST_PIECES, Piece, Plan, Text, count_piece};
@@ -42,19 +42,25 @@ pub fn run_worker<R: Rail, H: Hand, G: Gate>(
     hand: H,
     gate: &G,
 ) -> Result<WorkerDone<R>, AllocError>
-    requires worker { worker < 255 }
+    requires worker { worker < MOST_WORKERS }
     requires puts { R.PutsInto rail.now seat }
     requires takes { R.TakesFrom rail.now seat }
     requires width { (R.shape_of rail.now).width ≡ SPAN_WORDS }
-    requires room { length (R.made seat) < 2 ^ 31 }
+    requires room { length (R.made seat) + length plan.now < most_puts (R.shape_of rail.now) }
     requires inside { AllLieIn texts.now plan.now }
     requires words { length (plan_words plan.now texts.now) < 2 ^ 63 }
-    requires numbers { (numbers.old.next ≤ numbers.old.end) × (numbers.old.end ≡ length plan.now) × (numbers.old.end ≤ MOST_PIECES) }
-    ensures numbers { OnOk result (numbers.new ≡ record { next = numbers.old.end; end = numbers.old.end }) }
-    ensures drawn { IfOk result (λ done. done.drawn ≡ range_with_len numbers.old.next (numbers.old.end - numbers.old.next)) }
-    ensures counts { IfOk result (λ done. done.counts ≡ add_all map_of.empty (flat_map (words_at plan.now texts.now) done.drawn)) }
-    ensures spans { IfOk result (λ done. Worked plan.now texts.now (H.ticks hand) worker done.drawn (R.made seat) (R.made done.seat)) }
-    ensures taken { IfOk result (λ done. GainAlike (R.taken seat) (R.taken done.seat) [] done.batch.items) }
+    requires numbers { (numbers.old.next ≤ numbers.old.end)
+        × (numbers.old.end ≡ length plan.now) × (numbers.old.end ≤ MOST_PIECES) }
+    ensures numbers { OnOk result
+        (numbers.new ≡ record { next = numbers.old.end; end = numbers.old.end }) }
+    ensures drawn { IfOk result (λ done. done.drawn
+        ≡ range_with_len numbers.old.next (numbers.old.end - numbers.old.next)) }
+    ensures counts { IfOk result (λ done. done.counts
+        ≡ add_all map_of.empty (flat_map (words_at plan.now texts.now) done.drawn)) }
+    ensures spans { IfOk result (λ done. Worked plan.now texts.now
+        (H.ticks hand) worker done.drawn (R.made seat) (R.made done.seat)) }
+    ensures taken { IfOk result (λ done.
+        GainAlike (R.taken seat) (R.taken done.seat) [] done.batch.items) }
     ensures drops { R.DROPS ≡ true → IfOk result (λ done. R.taken done.seat ≡ R.taken seat) }
     ensures puts { IfOk result (λ done. (q : R) → R.PutsInto q seat → R.PutsInto q done.seat) }
     ensures takes { IfOk result (λ done. (q : R) → R.TakesFrom q seat → R.TakesFrom q done.seat) }
@@ -71,8 +77,8 @@ pub fn run_worker<R: Rail, H: Hand, G: Gate>(
     let first = hand.now();
     gate.arrive(worker);
     while let Some(number) = numbers.draw() {
-        words += count_noted(
-            rt, alloc, worker, plan, texts, rail, number, &mut done, &mut hand,
+        words = count_noted(
+            rt, alloc, worker, plan, texts, rail, number, words, &mut done, &mut hand,
         )?;
     }
     let last = hand.now();
@@ -84,12 +90,15 @@ pub fn run_worker<R: Rail, H: Hand, G: Gate>(
         file: 0,
         piece: done.drawn.numbers().len() as u64,
         words,
+        depth: 0,
+        total: words,
     };
     note_span(rt, alloc, rail, &mut done.seat, &mut done.batch, &own)?;
     Ok(done)
 }
 
-// Counts a piece between two readings of the clock, and notes its span.
+// Counts a piece between two readings of the clock, and notes its span. It is given how many words
+// the worker counted before, and answers how many it has counted now.
 fn count_noted<R: Rail, H: Hand>(
     rt: &impl Wait,
     alloc: Global,
@@ -98,44 +107,53 @@ fn count_noted<R: Rail, H: Hand>(
     texts: &[Text],
     rail: &R,
     number: u64,
+    before: u64,
     done: &mut WorkerDone<R>,
     hand: &mut H,
 ) -> Result<u64, AllocError>
-    requires worker { worker < 255 }
+    requires worker { worker < MOST_WORKERS }
     requires puts { R.PutsInto rail.now done.old.seat }
     requires takes { R.TakesFrom rail.now done.old.seat }
     requires width { (R.shape_of rail.now).width ≡ SPAN_WORDS }
-    requires room { length (R.made done.old.seat) < most_puts }
+    requires room { length (R.made done.old.seat) < most_puts (R.shape_of rail.now) }
     requires inside { AllLieIn texts.now plan.now }
     requires number { number < length plan.now }
     requires rising { All (λ n. n < number) done.old.drawn }
-    requires words { total done.old.counts + length (words_at plan.now texts.now number) < 2 ^ 63 }
-    ensures counts { OnOk result (done.new.counts ≡ add_all done.old.counts (words_at plan.now texts.now number)) }
-    ensures answer { IfOk result (λ n. n ≡ length (words_at plan.now texts.now number)) }
+    requires before { total done.old.counts ≡ before }
+    requires words { before + length (words_at plan.now texts.now number) < 2 ^ 63 }
+    ensures counts { OnOk result
+        (done.new.counts ≡ add_all done.old.counts (words_at plan.now texts.now number)) }
+    ensures answer { IfOk result (λ n. n ≡ before + length (words_at plan.now texts.now number)) }
     ensures drawn { OnOk result (done.new.drawn ≡ done.old.drawn ++ number ∷ []) }
-    ensures span { OnOk result (NotesPiece plan.now texts.now worker number (H.ticks hand.old) (H.ticks hand.new) (R.made done.old.seat) (R.made done.new.seat)) }
-    ensures taken { GainAlike (R.taken done.old.seat) (R.taken done.new.seat) done.old.batch.items done.new.batch.items }
+    ensures span { OnOk result (NotesPiece plan.now texts.now worker number
+        (before + length (words_at plan.now texts.now number))
+        (H.ticks hand.old) (H.ticks hand.new) (R.made done.old.seat) (R.made done.new.seat)) }
+    ensures taken { GainAlike (R.taken done.old.seat) (R.taken done.new.seat)
+        done.old.batch.items done.new.batch.items }
     ensures drops { R.DROPS ≡ true → R.taken done.new.seat ≡ R.taken done.old.seat }
     ensures puts { (q : R) → R.PutsInto q done.old.seat → R.PutsInto q done.new.seat }
     ensures takes { (q : R) → R.TakesFrom q done.old.seat → R.TakesFrom q done.new.seat }
     ensures seat_number { R.number_of done.new.seat ≡ R.number_of done.old.seat }
 {
     let (file, bytes) = piece_at(plan, texts, number);
-    let before = hand.now();
+    let start = hand.now();
     let words = count_piece(alloc, &mut done.counts, bytes)?;
-    let after = hand.now();
+    let end = hand.now();
+    let total = before + words;
     let event = SpanEvent {
         kind: SpanKind::Piece,
         tid: worker + 1,
-        ts: before,
-        dur: elapsed(before, after),
+        ts: start,
+        dur: elapsed(start, end),
         file,
         piece: number,
         words,
+        depth: 1,
+        total,
     };
     note_span(rt, alloc, rail, &mut done.seat, &mut done.batch, &event)?;
     done.drawn.push(number)?;
-    Ok(words)
+    Ok(total)
 }
 
 // How long it was between two readings, 0 where the clock ran backwards.
@@ -160,7 +178,7 @@ fn piece_at<'a>(plan: &Plan, texts: &'a [Text], number: u64) -> (u64, &'a [u8])
 
 // The bytes of a piece that lies in its text.
 fn lying_bytes<'a>(texts: &'a [Text], piece: &Piece) -> &'a [u8]
-    requires { LiesIn (slice_index_or texts.now piece.now.file []) piece.now.file piece.now }
+    requires { LiesInText texts.now piece.now }
     ensures { result.now ≡ plan_bytes texts.now piece.now }
 {
     let Some(text) = texts.get(piece.file as usize) else {

@@ -2,7 +2,7 @@ use Rattle.std.proofs.Common.{◌≡◌, ℕ, ◌+◌, ◌<◌, List, [], ◌∷
 use Rattle.std.proofs.lemmas.Option.{slice_get_read}
 use Rattle.std.proofs.lemmas.List.{take_more}
 use Rattle.cursor_word.specs.Shape.{Grid}
-use Rattle.rail.specs.Rail.{most_puts}
+use Rattle.cursor_word.specs.Cursor.{most_puts}
 use Rattle.bbq_core.specs.declared.event.Event.{Event}
 use Rattle.bbq_core.specs.Machine.{ShapedState, Suits, run, start_state, step, view_of}
 use Rattle.bbq_core.specs.Counts.{made_count}
@@ -18,7 +18,7 @@ step-requires c =
     let was = sym c.loop-event.invariant in
     record {
       suits = subst (λ (s : ShapedState). Suits s.shape x) was (suits_at g c.args.events.now i x c.requires.suits (slice_get_read c.args.events.now (length c.args.events.now) i x refl c.loop-event-test.true c.event-item.is));
-      room = subst (λ (s : ShapedState). made_count (view_of s x.seat) < most_puts) was (made_below g c.args.events.now i x.seat c.requires.few);
+      room = subst (λ (s : ShapedState). made_count (view_of s x.seat) < most_puts s.shape) was (made_below g c.args.events.now i x.seat c.requires.few);
     }
 
 pub loop-event-preserved : goal.loop-event-preserved

@@ -7,7 +7,7 @@ use Rattle.word_workers.specs.Spans.{AllLieIn, plan_words}
 use Rattle.word_workers.specs.Trace.{RunTrace}
 use Rattle.word_workers.proofs.Plans.{plan_inside, plan_words-le}
 use Rattle.word_workers.proofs.Traces.{trace_of_run}
-use Rattle.profile_cli.proofs.Accepted.{files_accepted, gathered_accepted, gathered_apart, spans_below, spell_accepted}
+use Rattle.profile_cli.proofs.Accepted.{events_accepted, files_accepted, gathered_accepted, gathered_apart, spans_below}
 use Rattle.profile_cli.proofs.Planned.{counts_of_plan}
 use Rattle.profile_cli.proofs.queue_run.run_through.Goals as goal
 
@@ -50,7 +50,7 @@ returns-clause-queue g c =
       shape = c.in-Ok.ensures.shape ∙ c.requires.shape;
       order = c.in-Ok.ensures.accepted.no_gap;
       outcome = c.in-Ok.ensures.retry c.requires.keeps;
-      run = subst (λ (plan : List Piece). RunTrace (g.Q.Rail.done_accepted c.in-Ok.done) c.args.options.now.workers plan c.args.texts.now (g.C.Clock.ticks c.args.clock.now)) c.requires.plan run;
+      run = subst (λ (plan : List Piece). RunTrace (g.Q.Rail.done_accepted c.in-Ok.done) c.args.options.now.workers plan c.args.texts.now (λ _. g.C.Clock.ticks c.args.clock.now)) c.requires.plan run;
     }
 
 pub returns-clause-events : goal.returns-clause-events
@@ -58,7 +58,7 @@ returns-clause-events g c =
     let done = c.in-Ok.ensures in
     let batches = subst (λ (bs : List Gathered). IsPermutation (flat_map (λ (b : Gathered). b.items) bs) (flat_map g.Q.Rail.taken c.in_ok-work.work.seats.items)) (sym c.as_slice.ensures.value) c.in_ok-work.ensures.batches in
     let same = gathered_accepted _ _ _ _ _ _ _ done.accepted batches done.taken (done.retry c.requires.keeps) c.left.ensures _ c.in_ok-list.ensures.order c.in_ok-list.ensures.all in
-    spell_accepted _ _ _ same c.in_ok-events.ensures
+    events_accepted _ _ _ same c.in_ok-events.ensures
 
 pub returns-clause-files : goal.returns-clause-files
 returns-clause-files g c =

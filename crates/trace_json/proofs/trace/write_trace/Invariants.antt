@@ -1,7 +1,6 @@
 use Rattle.std.proofs.Common.{◌≡◌, ◌≤◌, ◌++◌, drop, map, codes, string_bytes, nat_lt}
-use Rattle.serde_json.specs.View.{items_of}
-use Rattle.serde_json.specs.Written.{items_text}
-use Rattle.trace_json.specs.Trace.{event_data, trace_text}
+use Rattle.trace_json.specs.Trace.{trace_text}
+use Rattle.trace_json.proofs.Parts.{spans_text}
 use Rattle.trace_json.proofs.Pending.{Pending}
 use Rattle.trace_json.proofs.trace.write_trace.Given as goal
 
@@ -12,5 +11,5 @@ invariant-loop-index g l =
       later : g.O.Sink.faults l.initial.sink ≤ g.O.Sink.faults l.sink;
       ready : g.O.Sink.ready l.sink;
       beside : g.O.Sink.beside l.sink ≡ g.O.Sink.beside l.initial.sink;
-      pending : Pending (g.O.Sink.told l.initial.sink) (g.O.Sink.told l.sink) l.text.items (items_text (nat_lt 0 l.index) (items_of (map (event_data names) (drop l.index l.events))) ++ codes "}\n") (trace_text names l.accepted l.events);
+      pending : Pending (g.O.Sink.told l.initial.sink) (g.O.Sink.told l.sink) l.text.items (spans_text (nat_lt 0 l.index) names (drop l.index l.events) ++ codes "}\n") (trace_text names l.accepted l.events);
     }

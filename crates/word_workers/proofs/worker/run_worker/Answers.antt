@@ -34,15 +34,16 @@ loop-number-preserved g c =
     let longer = longer_by_one _ _ _ ok.span.gains in
     let made = i.made in
     let len = ap (λ (t : List ℕ). length t) ok.drawn ∙ length-append c.loop-number.done.drawn (c.in-Some.number ∷ []) in
+    let counted = count_more _ _ _ _ _ _ _ _ _ i.count ok.counts ok.answer ok.drawn in
     record {
       end = search rules;
       from = search rules;
       within = search rules;
       drawn = drawn_more _ _ _ _ _ _ i.from some.0 next i.drawn ok.drawn;
-      count = count_more _ _ _ _ _ _ _ _ _ i.count ok.counts ok.answer ok.drawn;
-      counting = counting_more _ _ _ _ _ _ _ _ _ _ _ _ _ i.counting ok.span ok.drawn;
+      count = counted;
+      counting = counting_more _ _ _ _ _ _ _ _ _ _ _ _ _ _ i.counting ok.span (sym ok.answer ∙ counted.words_are) ok.drawn;
       made = omega arith;
-      taken = gain_twice _ _ _ _ _ _ _ refl i.taken c.count_noted.ensures.taken;
+      taken = gain_twice _ _ _ _ _ _ i.taken c.count_noted.ensures.taken;
       drops = λ d. c.count_noted.ensures.drops d ∙ i.drops d;
       puts = λ q h. c.count_noted.ensures.puts q (i.puts q h);
       takes = λ q h. c.count_noted.ensures.takes q (i.takes q h);
@@ -65,16 +66,10 @@ count_noted-requires-clause-words g c κs within =
     let i = c.loop-number.invariant in
     let below : c.in-Some.number < length c.args.plan.now = let some = c.in-Some.ensures.some in let end = i.end in omega arith in
     let most = words_within _ _ _ _ _ _ _ _ i.count i.drawn i.from c.in-Some.ensures.some.0 below in
-    let all = total_count _ _ _ _ _ i.count in
     omega arith
 
-pub overflow_add-words : goal.overflow_add-words
-overflow_add-words g c =
-    let i = c.loop-number.invariant in
-    let below : c.in-Some.number < length c.args.plan.now = let some = c.in-Some.ensures.some in let end = i.end in omega arith in
-    let most = words_within _ _ _ _ _ _ _ _ i.count i.drawn i.from c.in-Some.ensures.some.0 below in
-    let found = c.in_ok-words.ensures.answer in
-    omega arith
+pub count_noted-requires-clause-before : goal.count_noted-requires-clause-before
+count_noted-requires-clause-before g c κs within = total_count _ _ _ _ _ c.loop-number.invariant.count
 
 pub note_span-requires-clause-room : goal.note_span-requires-clause-room
 note_span-requires-clause-room g c κs within =

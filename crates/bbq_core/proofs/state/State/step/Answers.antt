@@ -1,6 +1,6 @@
 use Rattle.std.proofs.Common.{◌≡◌, ◌<◌, sym, subst}
 use Rattle.std.specs.Prelude.{OnErr, OnOk, slice_set}
-use Rattle.rail.specs.Rail.{most_puts}
+use Rattle.cursor_word.specs.Cursor.{most_puts}
 use Rattle.bbq_core.specs.declared.view.View.{View}
 use Rattle.bbq_core.specs.declared.event.Event.{Event}
 use Rattle.bbq_core.specs.Machine.{MachineState, ShapedState, Suits, step, view_of}
@@ -23,9 +23,9 @@ invariant_of-self c =
     let v : View = c.index_mut-seat.result.now in
     let suits : Suits i.shape e = subst (λ (s : ShapedState). Suits s.shape e) (sym c.self.view_is) c.requires.suits in
     let at = seat_is i.shape i.words.items i.seats.items e.seat v c.self.invariant suits.seat c.index_mut-seat.ensures.value in
-    let room = subst (λ (s : ShapedState). made_count (view_of s e.seat) < most_puts) (sym c.self.view_is) c.requires.room in
+    let room = subst (λ (s : ShapedState). made_count (view_of s e.seat) < most_puts s.shape) (sym c.self.view_is) c.requires.room in
     kept_after i.shape i.words.items c.turn.new.words.items i.seats.items e.seat v c.turn.new.seat e.start c.turn.result c.self.invariant at suits.wide
-    (subst (λ (u : View). made_count u < most_puts) (view_is (state_of i.shape i.words.items i.seats.items) e.seat v at) room) c.turn.ensures.ok c.turn.ensures.err
+    (subst (λ (u : View). made_count u < most_puts i.shape) (view_is (state_of i.shape i.words.items i.seats.items) e.seat v at) room) c.turn.ensures.ok c.turn.ensures.err
 
 pub returns-clause-step : goal.returns-clause-step
 returns-clause-step c =

@@ -13,7 +13,14 @@ read_left-requires-clause-places c = let g = c.self.inside.shape in let seats = 
     let s = ends_settled g c.self.inside.words.key c.self.invariant.0 c.close-stopped.result c.gather-all.result.view seats c.close-stopped.ensures.rule c.gather-all.ensures.views long c.gather-all.ensures.rest in
     let few = ends_few g c.self.inside.words.key c.self.invariant.0 c.close-stopped.result c.gather-all.result.view seats c.close-stopped.ensures.rule c.gather-all.ensures.views long in
     let fewer = taken_fewer g c.close-stopped.result seats s in
-    let p = c.requires.puts in let t = c.requires.takes in let e = c.saturating_sub.ensures in omega arith
+    omega (arith, c.requires.puts, c.requires.takes, c.saturating_sub.ensures, c.blocks-blocks.ensures.limits.size_to)
+
+pub invariant_of-result : goal.invariant_of-result
+invariant_of-result c = let g = c.self.inside.shape in let seats = c.args.seats.items in
+    let long = c.requires.all ∙ ap (λ q. q.shape.seats) (sym c.self.view_is) ∙ ap (λ k. k.seats) c.self.invariant.0 in
+    let few = ends_few g c.self.inside.words.key c.self.invariant.0 c.close-stopped.result c.gather-all.result.view seats c.close-stopped.ensures.rule c.gather-all.ensures.views long in
+    let all : c.args.puts ≡ length (made_by_all seats) = omega (arith, c.requires.puts, c.blocks-blocks.ensures.limits.size_to) in
+    all ∙ sym (ap (λ v. length (made_by_all v.items)) c.of-before.ensures)
 
 pub returns-clause-accepted : goal.returns-clause-accepted
 returns-clause-accepted c = let g = c.self.inside.shape in let seats = c.args.seats.items in
@@ -39,7 +46,10 @@ returns-clause-retry c = let g = c.self.inside.shape in let seats = c.args.seats
     let s = ends_settled g c.self.inside.words.key c.self.invariant.0 c.close-stopped.result c.gather-all.result.view seats c.close-stopped.ensures.rule c.gather-all.ensures.views long c.gather-all.ensures.rest in
     let words = c.close-stopped.result in
     let fewer = taken_fewer g words seats s in
-    let puts = c.requires.puts in let takes = c.requires.takes in
+    let few = ends_few g c.self.inside.words.key c.self.invariant.0 words c.gather-all.result.view seats c.close-stopped.ensures.rule c.gather-all.ensures.views long in
+    let limits = c.blocks-blocks.ensures.limits in
+    let puts : c.args.puts ≡ length (made_by_all seats) = omega (arith, c.requires.puts, limits.size_to) in
+    let takes : c.args.takes ≡ length (taken_by_all seats) = omega (arith, c.requires.takes, limits.size_to) in
     let from = takes ∙ sym (taken_sum g words seats s) in
     let end : c.args.takes + c.saturating_sub.result ≡ c.args.puts = let e = c.saturating_sub.ensures in omega arith in
     let to = end ∙ (puts ∙ sym (made_sum g words seats s)) in

@@ -1,5 +1,6 @@
-use Rattle.std.proofs.Common.{refl, ap, ◌∙◌, subst}
+use Rattle.std.proofs.Common.{◌∙◌, ap, arith, length, refl, subst}
 use Rattle.std.specs.Prelude.{false}
+use Rattle.cursor_word.proofs.Places.{most_puts_to}
 use Rattle.rail.specs.Rail.{Puts}
 use Rattle.retry_rail.specs.Retry.{view_in}
 use Rattle.retry_rail.proofs.Machine.{machine}
@@ -11,6 +12,11 @@ run_put-result-requires-clause-machine c = machine
 
 pub run_put-result-requires-clause-call : goal.run_put-result-requires-clause-call
 run_put-result-requires-clause-call c = refl
+
+pub puts_after-self-inside-requires : goal.puts_after-self-inside-requires
+puts_after-self-inside-requires c =
+    let most = most_puts_to c.args.shape.now in
+    omega (arith, c.requires.room, ap (λ s. length s.view.made) c.self.view_is, c.self.invariant.2, c.size-size.ensures.limits.size_to)
 
 pub returns-clause-answer : goal.returns-clause-answer
 returns-clause-answer c = let r = c.run_put-result.ensures in let g = c.args.shape.now in

@@ -1,4 +1,5 @@
-use Rattle.std.proofs.Common.{arith}
+use Rattle.std.proofs.Common.{ap, arith}
+use Rattle.cursor_word.specs.Shape.{Grid}
 use Rattle.solo_rail.proofs.Finish.{finish_seen, retry_seen, settles}
 use Rattle.solo_rail.proofs.solo_retry.SoloRetry.finish.Goals as goal
 
@@ -10,7 +11,7 @@ read_left-requires-clause-places c =
     let puts = c.seat.invariant.1 in
     let takes = c.seat.invariant.2 in
     let count = c.saturating_sub.ensures in
-    omega arith
+    omega (arith, ap (λ (g : Grid). g.size) c.self.invariant.0)
 
 pub returns-clause-whole : goal.returns-clause-whole
 returns-clause-whole c = (finish_seen _ _ _ _ _ _ c.seat.view_is c.seat.invariant.0 c.close-stopped.ensures.rule).whole
