@@ -2,7 +2,7 @@
 use Rattle.std.proofs.Common.{◌≡◌, ℕ, Result, Ok, Err, IsOk, is_ok, if◌then◌else◌, List, [], ◌∷◌, ◌++◌, map, Option, Some, None, refl, ap, ◌∙◌, sym, subst, MatchOption}
 use Rattle.std.specs.Option.{option_to_list}
 use Rattle.std.proofs.lemmas.List.{map-append}
-use Rattle.flow_io.specs.Flow.{Files, Beside, BeginsDocument}
+use Rattle.flow_io.specs.Flow.{Files, BeginsDocument}
 use Rattle.flow_io.specs.Held.{last_bytes, last_name}
 use Rattle.flow_io.specs.Stored.{begun_of, document_of}
 use Rattle.flow_io.specs.declared.store.Document.{Document}

@@ -1,4 +1,6 @@
 pub mod Begun
 pub mod Files
+pub mod Given
 pub mod Parts
+pub mod Said
 pub mod Unused

@@ -1,9 +1,10 @@
 -- What a clock's hand tells of its readings.
-use Rattle.std.specs.Prelude.{◌≡◌, ℕ, ◌+◌, ◌*◌, Option, Some, None, IfSome, min}
+use Rattle.std.specs.Prelude.{◌≡◌, ℕ, ◌+◌, ◌*◌, Option, Some, IfSome, min}
+use Rattle.flow_io.specs.declared.clock.TheConstants.{LAST_READING}
 
 -- the greatest reading
 abbrev pub last_reading : ℕ
-last_reading = 9007199254740991
+last_reading = LAST_READING
 
 -- the next reading, and the step from each reading to the one after it
 pub record Ticks : Type 0 where

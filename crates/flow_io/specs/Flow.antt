@@ -1,5 +1,5 @@
 -- What a source and a sink tell, and when they may fail.
-use Rattle.std.specs.Prelude.{◌≡◌, ℕ, ◌+◌, ◌-◌, ◌^◌, ◌<◌, ◌≤◌, ◌⊎◌, Bool, true, false, List, [], ◌∷◌, ◌++◌, length, take, drop, Option, Some, None, IfSome}
+use Rattle.std.specs.Prelude.{◌≡◌, ℕ, ◌+◌, ◌^◌, ◌<◌, ◌≤◌, ◌⊎◌, List, [], ◌∷◌, ◌++◌, length, take, drop, Option, Some, None, IfSome}
 use Rattle.std.specs.Option.{option_map}
 use Rattle.std.specs.Map.{lookup}
 use Rattle.std.specs.Str.{bytes_eq}
@@ -26,32 +26,38 @@ HoldsNone (Some files) name = file_named files name ≡ None
 
 -- where the source tells its files, these bytes are left: those of that file
 abbrev pub BeginsFile : Option Files → List ℕ → Option (List ℕ) → Type 0
-BeginsFile files name left = IfSome files (λ held. (bytes : List ℕ) × (file_named held name ≡ Some bytes) × (left ≡ Some bytes))
+BeginsFile files name left = IfSome files (λ held.
+    (bytes : List ℕ) × (file_named held name ≡ Some bytes) × (left ≡ Some bytes))
 
 -- the first n of the bytes that were left, where told, and what is left now
 abbrev pub GivesNext : Option (List ℕ) → Option (List ℕ) → ℕ → List ℕ → Type 0
-GivesNext old new n buf = IfSome old (λ bytes. (n ≤ length bytes) × (take n buf ≡ take n bytes) × (new ≡ Some (drop n bytes)))
+GivesNext old new n buf = IfSome old (λ bytes.
+    (n ≤ length bytes) × (take n buf ≡ take n bytes) × (new ≡ Some (drop n bytes)))
 
--- what a read says
+-- what a read says of what was left and is left, and of the count of faults before it and now
 abbrev pub ReadGives : Option (List ℕ) → Option (List ℕ) → ℕ → ℕ → List ℕ → Got → Type 0
-ReadGives old new before now buf (got.Got n) = (0 < n) × (n ≤ length buf) × GivesNext old new n buf
-ReadGives old new before now buf got.End = IfSome old (λ bytes. bytes ≡ []) × (new ≡ old)
+ReadGives old new before now buf (got.Got n) =
+    (0 < n) × (n ≤ length buf) × GivesNext old new n buf × (now ≡ before)
+ReadGives old new before now buf got.End =
+    IfSome old (λ bytes. bytes ≡ []) × (new ≡ old) × (now ≡ before)
 ReadGives old new before now buf got.Failed = Rose before now × (new ≡ old)
 
 -- what is told grows by these bytes
 abbrev pub gained : Option (List ℕ) → List ℕ → Option (List ℕ)
 gained told more = option_map (λ bytes. bytes ++ more) told
 
--- what a write says
+-- what a write says of what was told and is told, and of the count of faults before it and now
 abbrev pub WriteGives : Option (List ℕ) → Option (List ℕ) → ℕ → ℕ → List ℕ → Took → Type 0
-WriteGives old new before now bytes (took.Took n) = (0 < n) × (n ≤ length bytes) × (new ≡ gained old (take n bytes))
+WriteGives old new before now bytes (took.Took n) =
+    (0 < n) × (n ≤ length bytes) × (new ≡ gained old (take n bytes)) × (now ≡ before)
 WriteGives old new before now bytes took.Failed = Rose before now × (new ≡ old)
 
 -- a shorter prefix was taken
 abbrev pub GainedPart : Option (List ℕ) → Option (List ℕ) → List ℕ → Type 0
 GainedPart old new bytes = (n : ℕ) × (n < length bytes) × (new ≡ gained old (take n bytes))
 
--- beside its bytes, a trace store tells its earlier documents and the name of the last one, once one is begun
+-- beside its bytes, a trace store tells its earlier documents and the name of the last one, once
+-- one is begun
 abbrev pub Beside : Type 0
 Beside = Option (Files × List ℕ)
 
@@ -63,4 +69,5 @@ documents (Some bytes) (Some last) = Some (last.0 ++ (last.1, bytes) ∷ [])
 
 -- where the store tells its documents, an empty one of that name stands behind them now
 abbrev pub BeginsDocument : Option (List ℕ) → Beside → Option (List ℕ) → Beside → List ℕ → Type 0
-BeginsDocument told beside new_told new_beside name = IfSome (documents told beside) (λ earlier. (new_told ≡ Some []) × (new_beside ≡ Some (earlier, name)))
+BeginsDocument told beside new_told new_beside name = IfSome (documents told beside) (λ earlier.
+    (new_told ≡ Some []) × (new_beside ≡ Some (earlier, name)))

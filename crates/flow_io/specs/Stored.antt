@@ -1,6 +1,6 @@
 -- How a trace store in memory keeps its documents.
-use Rattle.std.specs.Prelude.{◌≡◌, ℕ, ◌+◌, ◌≤◌, List, [], length, map, Option, Some, None, MatchOption, string_bytes, string_len, string_capacity, vec_len, vec_capacity}
-use Rattle.std.specs.Option.{option_map}
+use Rattle.std.specs.Prelude.{◌≡◌, ℕ, ◌+◌, ◌≤◌, List, [], length, map, Option, MatchOption, string_bytes, string_len, string_capacity, vec_len, vec_capacity}
+use Rattle.std.specs.Option.{option_map, option_to_list}
 use Rattle.std.specs.List.{AllByRecursion}
 use Rattle.flow_io.specs.Flow.{Files}
 use Rattle.flow_io.specs.declared.store.Document.{Document}
@@ -20,9 +20,11 @@ pub record IsUnused (room : ℕ) (d : Document) : Type 0 where
   pub name_room : room ≤ string_capacity d.name
   pub bytes_room : room ≤ vec_capacity d.bytes
 
--- what is left of the room fits each document that is written to from now on
-pub record HasRoom (earlier unused : List Document) (last : Option Document) (room full capacity : ℕ) : Type 0 where
+-- what is left of the room fits each document that is written to from now on, and there is a place
+-- for each document that becomes an earlier one
+pub record HasRoom (earlier unused : List Document) (last : Option Document)
+    (room full capacity : ℕ) : Type 0 where
   pub empty : AllByRecursion (IsUnused full) unused
   pub fits : room ≤ full
   pub begun : MatchOption last (earlier ≡ []) (λ d. room + vec_len d.bytes ≤ vec_capacity d.bytes)
-  pub places : length earlier + length unused + 1 ≤ capacity
+  pub places : length earlier + length (option_to_list last) + length unused ≤ capacity

@@ -2,11 +2,12 @@ ghost use Rattle.std.specs.Prelude.{◌≡◌, ◌≤◌, Some, None, IfSome};
 ghost use Rattle.flow_io.specs.Clock.{Ticks, last_reading, Reads};
 
 use crate::{Clock, Hand};
+use std::marker::Model;
 use std::time;
 use std::time::Instant;
 
 /// The greatest reading.
-const LAST: u64 = 9_007_199_254_740_991;
+pub const LAST_READING: u64 = 9_007_199_254_740_991;
 
 /// A clock in memory, each of whose hands starts at `next` and goes on by `step`.
 #[derive(Drop)]
@@ -31,7 +32,7 @@ impl Hand for MemHand {
 
     fn now(&mut self) -> u64 {
         let reading = self.next;
-        self.next = (reading + self.step).min(LAST);
+        self.next = (reading + self.step).min(LAST_READING);
         reading
     }
 }
@@ -39,7 +40,7 @@ impl Hand for MemHand {
 impl Clock for MemClock {
     type Hand = MemHand;
 
-    ghost ticks = { λ s. Some (record { next = s.next; step = s.step }) };
+    ghost ticks = { λ s worker. Some (record { next = s.next; step = s.step }) };
 
     fn hand(&self, _worker: u64) -> MemHand {
         MemHand {
@@ -49,7 +50,8 @@ impl Clock for MemClock {
     }
 }
 
-/// The system's clock that doesn't run backwards, in microseconds from one before its making. It tells no readings.
+/// The system's clock that doesn't run backwards, in microseconds from one before its making. It
+/// tells no readings.
 #[derive(Drop)]
 pub struct RealClock<'a, R: time::Clock + Sync> {
     rt: &'a R,
@@ -65,28 +67,44 @@ impl<'a, R: time::Clock + Sync> RealClock<'a, R> {
     }
 }
 
-/// A hand of the system's clock. One that can't read it answers what it answered last, and 0 at first.
+/// A hand of the system's clock, seen as the reading that it answered last, 0 at first. One that
+/// can't read the clock answers that again.
 #[derive(Drop)]
 pub struct RealHand<'a, R: time::Clock + Sync> {
     rt: &'a R,
     start: Option<Instant>,
     last: u64,
-    ghost last_fits: { last ≤ last_reading },
+}
+
+impl<'a, R: time::Clock + Sync> Model for RealHand<'a, R> {
+    ghost use Rattle.std.specs.Prelude.{ℕ, ◌≤◌};
+    ghost use Rattle.flow_io.specs.Clock.{last_reading};
+
+    ghost Value = { ℕ };
+
+    ghost view = { λ a. a.last };
+
+    ghost invariant = { λ a. a.last ≤ last_reading };
 }
 
 /// The microseconds since the start, and one.
 fn since_start<R: time::Clock>(rt: &R, start: Option<Instant>) -> Option<u64> {
     let passed = Instant::now(rt).ok()?.duration_since(start?);
-    let micros = u64::try_from(passed.as_micros()).unwrap_or(LAST);
+    let micros = u64::try_from(passed.as_micros()).unwrap_or(LAST_READING);
     Some(micros.saturating_add(1))
 }
 
 impl<R: time::Clock + Sync> Hand for RealHand<'_, R> {
     ghost ticks = { λ _. None };
 
-    fn now(&mut self) -> u64 {
+    fn now(&mut self) -> u64
+        ensures most { result ≤ last_reading }
+        ensures ticks { Reads None None result }
+        ensures rising { self.old ≤ result }
+        ensures last { self.new ≡ result }
+    {
         if let Some(reading) = since_start(self.rt, self.start) {
-            self.last = self.last.max(reading.min(LAST));
+            self.last = self.last.max(reading.min(LAST_READING));
         }
         self.last
     }
@@ -95,7 +113,7 @@ impl<R: time::Clock + Sync> Hand for RealHand<'_, R> {
 impl<'a, R: time::Clock + Sync> Clock for RealClock<'a, R> {
     type Hand = RealHand<'a, R>;
 
-    ghost ticks = { λ _. None };
+    ghost ticks = { λ _ worker. None };
 
     fn hand(&self, _worker: u64) -> RealHand<'a, R> {
         RealHand {

@@ -32,8 +32,10 @@ pub trait Source {
     fn start(&mut self, name: &str) -> bool
         ensures later { faults self.old ≤ faults self.new }
         ensures files { files self.new ≡ files self.old }
+        ensures quiet { result ≡ true → faults self.new ≡ faults self.old }
         ensures found { result ≡ true → BeginsFile (files self.old) name.now (left self.new) }
-        ensures cause { result ≡ false → Rose (faults self.old) (faults self.new) ⊎ HoldsNone (files self.old) name.now }
+        ensures cause { result ≡ false
+            → Rose (faults self.old) (faults self.new) ⊎ HoldsNone (files self.old) name.now }
         ensures nothing { result ≡ false → left self.new ≡ Some [] };
 
     /// Reads the next bytes into the front of the buffer.
@@ -41,7 +43,8 @@ pub trait Source {
         requires { 0 < length buf.old }
         ensures later { faults self.old ≤ faults self.new }
         ensures files { files self.new ≡ files self.old }
-        ensures gives { ReadGives (left self.old) (left self.new) (faults self.old) (faults self.new) buf.new result };
+        ensures gives { ReadGives (left self.old) (left self.new)
+            (faults self.old) (faults self.new) buf.new result };
 }
 
 /// Where bytes go.
@@ -65,7 +68,8 @@ pub trait Sink {
         ensures later { faults self.old ≤ faults self.new }
         ensures ready { ready self.new }
         ensures beside { beside self.new ≡ beside self.old }
-        ensures gives { WriteGives (told self.old) (told self.new) (faults self.old) (faults self.new) bytes.now result };
+        ensures gives { WriteGives (told self.old) (told self.new)
+            (faults self.old) (faults self.new) bytes.now result };
 }
 
 /// A sink of named documents: what is written goes to the last one.
@@ -75,7 +79,10 @@ pub trait TraceStore: Sink {
         ensures later { Self.faults self.old ≤ Self.faults self.new }
         ensures stays_ready { Self.ready self.old → Self.ready self.new }
         ensures ready { result ≡ true → Self.ready self.new }
-        ensures begun { result ≡ true → BeginsDocument (Self.told self.old) (Self.beside self.old) (Self.told self.new) (Self.beside self.new) name.now }
+        ensures quiet { result ≡ true → Self.faults self.new ≡ Self.faults self.old }
+        ensures begun { result ≡ true
+            → BeginsDocument (Self.told self.old) (Self.beside self.old)
+            (Self.told self.new) (Self.beside self.new) name.now }
         ensures cause { result ≡ false → Rose (Self.faults self.old) (Self.faults self.new) }
         ensures told { result ≡ false → Self.told self.new ≡ Self.told self.old }
         ensures beside { result ≡ false → Self.beside self.new ≡ Self.beside self.old };
@@ -96,10 +103,11 @@ pub trait Hand: Send + Drop {
 pub trait Clock {
     type Hand: Hand;
 
-    /// What each hand tells at first, where the clock tells it.
-    ghost ticks: { Self → Option Ticks };
+    /// What the hand of each worker tells at first, where the clock tells it.
+    ghost ticks: { Self → ℕ → Option Ticks };
 
     /// Makes the hand of a worker.
     fn hand(&self, worker: u64) -> Self::Hand
-        ensures { IfSome (ticks self.now) (λ told. Self.Hand.ticks result ≡ Some told) };
+        ensures { IfSome (ticks self.now worker)
+            (λ told. Self.Hand.ticks result ≡ Some told) };
 }

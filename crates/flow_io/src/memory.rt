@@ -4,7 +4,7 @@ ghost use Rattle.flow_io.specs.Held.{shown, bytes_at, is_due, after_call, unused
 ghost use Rattle.flow_io.specs.declared.flow.Got.{Got};
 ghost use Rattle.flow_io.specs.declared.flow.Took.{Took};
 
-use crate::plan::Plan;
+use crate::failing_calls::FailingCalls;
 use crate::{Got, Sink, Source, Took};
 use std::alloc::{AllocError, Global};
 use std::marker::Model;
@@ -16,7 +16,7 @@ pub struct MemSource {
     at: usize,
     from: usize,
     most: usize,
-    plan: Plan,
+    failing: FailingCalls,
 }
 
 impl Model for MemSource {
@@ -25,30 +25,42 @@ impl Model for MemSource {
 
     ghost Value = { HeldFiles };
 
-    ghost view = { λ a. record { files = shown a.held.items; left = drop a.from (bytes_at (shown a.held.items) a.at); most = a.most; plan = a.plan } };
+    ghost view = { λ a. record {
+      files = shown a.held.items;
+      left = drop a.from (bytes_at (shown a.held.items) a.at);
+      most = a.most;
+      failing = a.failing;
+    } };
 
     ghost invariant = { λ a. 0 < a.most };
 }
 
 impl MemSource {
-    /// A source of these files that gives at most `most` bytes a read, and fails at the calls of these numbers.
+    /// A source of these files that gives at most `most` bytes a read, and fails at the calls of
+    /// these numbers.
     pub fn new(files: Vec<(String, Vec<u8>)>, most: usize, fails: Vec<u64>) -> MemSource
         requires { 0 < most }
-        ensures { result ≡ record { files = shown files.items; left = []; most = most; plan = unused fails.items } }
+        ensures { result ≡ record {
+          files = shown files.items;
+          left = [];
+          most = most;
+          failing = unused fails.items;
+        } }
     {
         MemSource {
             at: files.len(),
             held: files,
             from: 0,
             most,
-            plan: Plan::new(fails),
+            failing: FailingCalls::new(fails),
         }
     }
 }
 
 /// The place of the first file of a name.
 fn find_file(files: &[(String, Vec<u8>)], name: &str) -> Option<usize>
-    ensures { MatchOption result (file_named (shown files.now) name.now ≡ None) (λ i. file_named (shown files.now) name.now ≡ Some (bytes_at (shown files.now) i)) }
+    ensures { MatchOption result (file_named (shown files.now) name.now ≡ None)
+        (λ i. file_named (shown files.now) name.now ≡ Some (bytes_at (shown files.now) i)) }
 {
     for (i, file) in files.iter().enumerate() {
         if file.0.as_str() == name {
@@ -85,24 +97,29 @@ fn copy_some(from: &[u8], buf: &mut [u8], most: usize) -> usize
 }
 
 impl Source for MemSource {
-    ghost faults = { λ s. s.plan.faults };
+    ghost faults = { λ s. s.failing.faults };
 
     ghost files = { λ s. Some s.files };
 
     ghost left = { λ s. Some s.left };
 
     fn start(&mut self, name: &str) -> bool
-        ensures later { self.old.plan.faults ≤ self.new.plan.faults }
+        ensures later { self.old.failing.faults ≤ self.new.failing.faults }
         ensures files { Some self.new.files ≡ Some self.old.files }
-        ensures found { result ≡ true → BeginsFile (Some self.old.files) name.now (Some self.new.left) }
-        ensures cause { result ≡ false → Rose self.old.plan.faults self.new.plan.faults ⊎ HoldsNone (Some self.old.files) name.now }
+        ensures quiet { result ≡ true → self.new.failing.faults ≡ self.old.failing.faults }
+        ensures found { result ≡ true
+            → BeginsFile (Some self.old.files) name.now (Some self.new.left) }
+        ensures cause { result ≡ false → Rose self.old.failing.faults self.new.failing.faults
+            ⊎ HoldsNone (Some self.old.files) name.now }
         ensures nothing { result ≡ false → Some self.new.left ≡ Some [] }
-        ensures exactly { (result ≡ false) ↔ ((is_due self.old.plan ≡ true) ⊎ (file_named self.old.files name.now ≡ None)) }
-        ensures plan { self.new.plan ≡ after_call self.old.plan (is_due self.old.plan) }
+        ensures exactly { (result ≡ false) ↔ ((is_due self.old.failing ≡ true)
+            ⊎ (file_named self.old.files name.now ≡ None)) }
+        ensures failing { self.new.failing
+            ≡ after_call self.old.failing (is_due self.old.failing) }
         ensures most { self.new.most ≡ self.old.most }
     {
-        let due = self.plan.is_due();
-        self.plan.count(due);
+        let due = self.failing.is_due();
+        self.failing.count(due);
         self.from = 0;
         self.at = self.held.len();
         if due {
@@ -119,15 +136,19 @@ impl Source for MemSource {
 
     fn read(&mut self, buf: &mut [u8]) -> Got
         requires { 0 < length buf.old }
-        ensures later { self.old.plan.faults ≤ self.new.plan.faults }
+        ensures later { self.old.failing.faults ≤ self.new.failing.faults }
         ensures files { Some self.new.files ≡ Some self.old.files }
-        ensures gives { ReadGives (Some self.old.left) (Some self.new.left) self.old.plan.faults self.new.plan.faults buf.new result }
-        ensures exactly { result ≡ (if is_due self.old.plan then Got.Failed else (if length self.old.left == 0 then Got.End else Got.Got (min self.old.most (min (length buf.old) (length self.old.left))))) }
-        ensures plan { self.new.plan ≡ after_call self.old.plan (is_due self.old.plan) }
+        ensures gives { ReadGives (Some self.old.left) (Some self.new.left)
+            self.old.failing.faults self.new.failing.faults buf.new result }
+        ensures exactly { result ≡ (if is_due self.old.failing then Got.Failed
+            else (if length self.old.left == 0 then Got.End
+            else Got.Got (min self.old.most (min (length buf.old) (length self.old.left))))) }
+        ensures failing { self.new.failing
+            ≡ after_call self.old.failing (is_due self.old.failing) }
         ensures most { self.new.most ≡ self.old.most }
     {
-        let due = self.plan.is_due();
-        self.plan.count(due);
+        let due = self.failing.is_due();
+        self.failing.count(due);
         if due {
             return Got::Failed;
         }
@@ -147,7 +168,7 @@ pub struct MemSink {
     taken: Vec<u8>,
     room: usize,
     most: usize,
-    plan: Plan,
+    failing: FailingCalls,
 }
 
 impl Model for MemSink {
@@ -156,13 +177,20 @@ impl Model for MemSink {
 
     ghost Value = { HeldBytes };
 
-    ghost view = { λ a. record { bytes = a.taken.items; room = a.room; most = a.most; plan = a.plan } };
+    ghost view = { λ a. record {
+      bytes = a.taken.items;
+      room = a.room;
+      most = a.most;
+      failing = a.failing;
+    } };
 
-    ghost invariant = { λ a. (0 < a.most) × (vec_len a.taken ≤ a.room) × (a.room ≤ vec_capacity a.taken) };
+    ghost invariant = { λ a. (0 < a.most) × (vec_len a.taken ≤ a.room)
+        × (a.room ≤ vec_capacity a.taken) };
 }
 
 impl MemSink {
-    /// A sink with room for so many bytes that takes at most `most` a write, and fails at the calls of these numbers.
+    /// A sink with room for so many bytes that takes at most `most` a write, and fails at the calls
+    /// of these numbers.
     pub fn new(
         alloc: Global,
         room: usize,
@@ -170,13 +198,18 @@ impl MemSink {
         fails: Vec<u64>,
     ) -> Result<MemSink, AllocError>
         requires { 0 < most }
-        ensures { IfOk result (λ sink. sink ≡ record { bytes = []; room = room; most = most; plan = unused fails.items }) }
+        ensures { IfOk result (λ sink. sink ≡ record {
+          bytes = [];
+          room = room;
+          most = most;
+          failing = unused fails.items;
+        }) }
     {
         Ok(MemSink {
             taken: Vec::with_capacity(alloc, room)?,
             room,
             most,
-            plan: Plan::new(fails),
+            failing: FailingCalls::new(fails),
         })
     }
 
@@ -199,7 +232,7 @@ pub(crate) fn take_bytes(taken: &mut Vec<u8>, bytes: &[u8])
 }
 
 impl Sink for MemSink {
-    ghost faults = { λ s. s.plan.faults };
+    ghost faults = { λ s. s.failing.faults };
 
     ghost told = { λ s. Some s.bytes };
 
@@ -209,16 +242,21 @@ impl Sink for MemSink {
 
     fn write(&mut self, bytes: &[u8]) -> Took
         requires { 0 < length bytes.now }
-        ensures later { self.old.plan.faults ≤ self.new.plan.faults }
-        ensures gives { WriteGives (Some self.old.bytes) (Some self.new.bytes) self.old.plan.faults self.new.plan.faults bytes.now result }
-        ensures exactly { result ≡ (if is_due self.old.plan || (self.old.room - length self.old.bytes) == 0 then Took.Failed else Took.Took (min self.old.most (min (length bytes.now) (self.old.room - length self.old.bytes)))) }
-        ensures plan { self.new.plan ≡ after_call self.old.plan (is_due self.old.plan || (self.old.room - length self.old.bytes) == 0) }
+        ensures later { self.old.failing.faults ≤ self.new.failing.faults }
+        ensures gives { WriteGives (Some self.old.bytes) (Some self.new.bytes)
+            self.old.failing.faults self.new.failing.faults bytes.now result }
+        ensures exactly { let room = self.old.room - length self.old.bytes in
+            result ≡ (if is_due self.old.failing || room == 0 then Took.Failed
+            else Took.Took (min self.old.most (min (length bytes.now) room))) }
+        ensures failing { let room = self.old.room - length self.old.bytes in
+            self.new.failing
+            ≡ after_call self.old.failing (is_due self.old.failing || room == 0) }
         ensures room { self.new.room ≡ self.old.room }
         ensures most { self.new.most ≡ self.old.most }
     {
         let room = self.room - self.taken.len();
-        let fails = self.plan.is_due() || room == 0;
-        self.plan.count(fails);
+        let fails = self.failing.is_due() || room == 0;
+        self.failing.count(fails);
         if fails {
             return Took::Failed;
         }

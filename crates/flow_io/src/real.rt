@@ -1,10 +1,11 @@
-ghost use Rattle.std.specs.Prelude.{◌<◌, ◌≤◌, Some, None, [], if◌then◌else◌, length, IsSome};
-ghost use Rattle.std.specs.Option.{is_some};
-ghost use Rattle.flow_io.specs.Flow.{Rose, WriteGives};
+ghost use Rattle.std.specs.Prelude.{◌≡◌, ◌<◌, ◌≤◌, ◌⊎◌, true, false, Some, None, [], length, IsSome};
+ghost use Rattle.flow_io.specs.Flow.{Rose, HoldsNone, WriteGives};
+ghost use Rattle.flow_io.specs.Opened.{left_in};
 
 use crate::{Got, Sink, Source, Took, TraceStore};
 use std::fs;
 use std::io::{Read, Write};
+use std::marker::Model;
 use std::rt::Files;
 
 /// The files of the system. It tells none.
@@ -13,6 +14,15 @@ pub struct FileSource<'a, R: Files> {
     rt: &'a R,
     file: Option<R::File>,
     faults: u64,
+}
+
+impl<'a, R: Files> Model for FileSource<'a, R> {
+    ghost use Rattle.std.specs.Option.{is_some};
+    ghost use Rattle.flow_io.specs.Opened.{Opened};
+
+    ghost Value = { Opened };
+
+    ghost view = { λ a. record { is_open = is_some a.file; faults = a.faults } };
 }
 
 impl<'a, R: Files> FileSource<'a, R> {
@@ -30,9 +40,16 @@ impl<R: Files> Source for FileSource<'_, R> {
 
     ghost files = { λ _. None };
 
-    ghost left = { λ s. if is_some s.file then None else Some [] };
+    ghost left = { λ s. left_in s.is_open };
 
-    fn start(&mut self, name: &str) -> bool {
+    fn start(&mut self, name: &str) -> bool
+        ensures later { self.old.faults ≤ self.new.faults }
+        ensures quiet { result ≡ true → self.new.faults ≡ self.old.faults }
+        ensures cause { result ≡ false
+            → Rose self.old.faults self.new.faults ⊎ HoldsNone None name.now }
+        ensures nothing { result ≡ false → left_in self.new.is_open ≡ Some [] }
+        ensures open { self.new.is_open ≡ result }
+    {
         match fs::open(self.rt, name) {
             Ok(file) => {
                 self.file = Some(file);

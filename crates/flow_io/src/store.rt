@@ -1,4 +1,4 @@
-ghost use Rattle.std.specs.Prelude.{◌≡◌, ℕ, ◌+◌, ◌-◌, ◌<◌, ◌^◌, ◌≤◌, ◌==◌, ◌||◌, true, false, not, if◌then◌else◌, Option, Some, None, List, [], ◌∷◌, ◌++◌, length, take, min, MatchOption, vec_len, vec_capacity, string_len, string_bytes, IfOk, IsSome, slice_index_or};
+ghost use Rattle.std.specs.Prelude.{◌≡◌, ℕ, ◌+◌, ◌-◌, ◌<◌, ◌≤◌, ◌==◌, ◌||◌, ◌↔◌, true, false, not, if◌then◌else◌, Option, Some, None, List, [], ◌∷◌, ◌++◌, length, take, min, MatchOption, vec_len, vec_capacity, string_len, string_bytes, IfOk, IfSome, IsNone, IsSome, slice_index_or};
 ghost use Rattle.std.specs.Option.{option_to_list};
 ghost use Rattle.std.specs.List.{AllByRecursion};
 ghost use Rattle.flow_io.specs.Flow.{Rose, WriteGives, BeginsDocument};
@@ -6,8 +6,8 @@ ghost use Rattle.flow_io.specs.Held.{is_due, after_call, unused, documents_of, l
 ghost use Rattle.flow_io.specs.Stored.{IsUnused, begun_of, document_of};
 ghost use Rattle.flow_io.specs.declared.flow.Took.{Took};
 
+use crate::failing_calls::FailingCalls;
 use crate::memory::take_bytes;
-use crate::plan::Plan;
 use crate::{Sink, Took, TraceStore};
 use std::alloc::{AllocError, Global};
 use std::marker::Model;
@@ -27,7 +27,7 @@ pub struct MemStore {
     unused: Vec<Document>,
     room: usize,
     most: usize,
-    plan: Plan,
+    failing: FailingCalls,
     full: usize,
 }
 
@@ -39,9 +39,16 @@ impl Model for MemStore {
 
     ghost use Rattle.flow_io.specs.Stored.{begun_of, HasRoom};
 
-    ghost view = { λ a. record { begun = begun_of a.earlier.items a.last; spare = vec_len a.unused; room = a.room; most = a.most; plan = a.plan } };
+    ghost view = { λ a. record {
+      begun = begun_of a.earlier.items a.last;
+      spare = vec_len a.unused;
+      room = a.room;
+      most = a.most;
+      failing = a.failing;
+    } };
 
-    ghost invariant = { λ a. (0 < a.most) × HasRoom a.earlier.items a.unused.items a.last a.room a.full (vec_capacity a.earlier) };
+    ghost invariant = { λ a. (0 < a.most)
+        × HasRoom a.earlier.items a.unused.items a.last a.room a.full (vec_capacity a.earlier) };
 }
 
 /// A document without a name and bytes, with room for both.
@@ -82,7 +89,10 @@ fn document_at<'a>(
     index: usize,
 ) -> Option<&'a Document>
     requires { MatchOption last.now (earlier.now ≡ []) (λ _. Unit {0}) }
-    ensures { MatchOption result (length (documents_of (begun_of earlier.now last.now)) ≤ index) (λ d. document_of d.now ≡ slice_index_or (documents_of (begun_of earlier.now last.now)) index ([], [])) }
+    ensures none { IsNone result
+        ↔ (length (documents_of (begun_of earlier.now last.now)) ≤ index) }
+    ensures document { IfSome result (λ d. document_of d.now
+        ≡ slice_index_or (documents_of (begun_of earlier.now last.now)) index ([], [])) }
 {
     if index < earlier.len() {
         return Some(&earlier[index]);
@@ -94,8 +104,8 @@ fn document_at<'a>(
 }
 
 impl MemStore {
-    /// A store with room for so many documents and for so many bytes, those of names among them, that takes at
-    /// most `most` a write, and fails at the calls of these numbers.
+    /// A store with room for so many documents and for so many bytes, those of names among them,
+    /// that takes at most `most` a write, and fails at the calls of these numbers.
     pub fn new(
         alloc: Global,
         documents: usize,
@@ -103,17 +113,22 @@ impl MemStore {
         most: usize,
         fails: Vec<u64>,
     ) -> Result<MemStore, AllocError>
-        requires most { 0 < most }
-        requires documents { documents + 1 < 2 ^ 64 }
-        ensures { IfOk result (λ store. store ≡ record { begun = None; spare = documents; room = room; most = most; plan = unused fails.items }) }
+        requires { 0 < most }
+        ensures { IfOk result (λ store. store ≡ record {
+          begun = None;
+          spare = documents;
+          room = room;
+          most = most;
+          failing = unused fails.items;
+        }) }
     {
         Ok(MemStore {
-            earlier: Vec::with_capacity(alloc, documents + 1)?,
+            earlier: Vec::with_capacity(alloc, documents)?,
             last: None,
             unused: empty_documents(alloc, documents, room)?,
             room,
             most,
-            plan: Plan::new(fails),
+            failing: FailingCalls::new(fails),
             full: room,
         })
     }
@@ -130,7 +145,9 @@ impl MemStore {
 
     /// The name of a document.
     pub fn name(&self, index: usize) -> Option<&str>
-        ensures { MatchOption result (length (documents_of self.now.begun) ≤ index) (λ name. name.now ≡ (slice_index_or (documents_of self.now.begun) index ([], [])).0) }
+        ensures none { IsNone result ↔ (length (documents_of self.now.begun) ≤ index) }
+        ensures name { IfSome result (λ name. name.now
+            ≡ (slice_index_or (documents_of self.now.begun) index ([], [])).0) }
     {
         match document_at(&self.earlier, &self.last, index) {
             None => None,
@@ -140,7 +157,9 @@ impl MemStore {
 
     /// The bytes of a document.
     pub fn bytes(&self, index: usize) -> Option<&[u8]>
-        ensures { MatchOption result (length (documents_of self.now.begun) ≤ index) (λ bytes. bytes.now ≡ (slice_index_or (documents_of self.now.begun) index ([], [])).1) }
+        ensures none { IsNone result ↔ (length (documents_of self.now.begun) ≤ index) }
+        ensures bytes { IfSome result (λ bytes. bytes.now
+            ≡ (slice_index_or (documents_of self.now.begun) index ([], [])).1) }
     {
         match document_at(&self.earlier, &self.last, index) {
             None => None,
@@ -150,7 +169,7 @@ impl MemStore {
 }
 
 impl Sink for MemStore {
-    ghost faults = { λ s. s.plan.faults };
+    ghost faults = { λ s. s.failing.faults };
 
     ghost told = { λ s. Some (last_bytes s.begun) };
 
@@ -161,18 +180,25 @@ impl Sink for MemStore {
     fn write(&mut self, bytes: &[u8]) -> Took
         requires some { 0 < length bytes.now }
         requires ready { IsSome self.old.begun }
-        ensures later { self.old.plan.faults ≤ self.new.plan.faults }
+        ensures later { self.old.failing.faults ≤ self.new.failing.faults }
         ensures ready { IsSome self.new.begun }
         ensures beside { last_name self.new.begun ≡ last_name self.old.begun }
-        ensures gives { WriteGives (Some (last_bytes self.old.begun)) (Some (last_bytes self.new.begun)) self.old.plan.faults self.new.plan.faults bytes.now result }
-        ensures exactly { result ≡ (if is_due self.old.plan || self.old.room == 0 then Took.Failed else Took.Took (min self.old.most (min (length bytes.now) self.old.room))) }
-        ensures plan { self.new.plan ≡ after_call self.old.plan (is_due self.old.plan || self.old.room == 0) }
-        ensures room { self.new.room + (length (last_bytes self.new.begun) - length (last_bytes self.old.begun)) ≡ self.old.room }
+        ensures gives { WriteGives
+            (Some (last_bytes self.old.begun)) (Some (last_bytes self.new.begun))
+            self.old.failing.faults self.new.failing.faults bytes.now result }
+        ensures exactly { result ≡ (if is_due self.old.failing || self.old.room == 0
+            then Took.Failed
+            else Took.Took (min self.old.most (min (length bytes.now) self.old.room))) }
+        ensures failing { self.new.failing
+            ≡ after_call self.old.failing (is_due self.old.failing || self.old.room == 0) }
+        ensures room { self.new.room
+            + (length (last_bytes self.new.begun) - length (last_bytes self.old.begun))
+            ≡ self.old.room }
         ensures spare { self.new.spare ≡ self.old.spare }
         ensures most { self.new.most ≡ self.old.most }
     {
-        let fails = self.plan.is_due() || self.room == 0;
-        self.plan.count(fails);
+        let fails = self.failing.is_due() || self.room == 0;
+        self.failing.count(fails);
         if fails {
             return Took::Failed;
         }
@@ -187,21 +213,27 @@ impl Sink for MemStore {
 
 impl TraceStore for MemStore {
     fn begin(&mut self, name: &str) -> bool
-        ensures later { self.old.plan.faults ≤ self.new.plan.faults }
+        ensures later { self.old.failing.faults ≤ self.new.failing.faults }
         ensures stays_ready { IsSome self.old.begun → IsSome self.new.begun }
         ensures ready { result ≡ true → IsSome self.new.begun }
-        ensures begun { result ≡ true → BeginsDocument (Some (last_bytes self.old.begun)) (last_name self.old.begun) (Some (last_bytes self.new.begun)) (last_name self.new.begun) name.now }
-        ensures cause { result ≡ false → Rose self.old.plan.faults self.new.plan.faults }
-        ensures told { result ≡ false → Some (last_bytes self.new.begun) ≡ Some (last_bytes self.old.begun) }
+        ensures quiet { result ≡ true → self.new.failing.faults ≡ self.old.failing.faults }
+        ensures begun { result ≡ true → BeginsDocument
+            (Some (last_bytes self.old.begun)) (last_name self.old.begun)
+            (Some (last_bytes self.new.begun)) (last_name self.new.begun) name.now }
+        ensures cause { result ≡ false → Rose self.old.failing.faults self.new.failing.faults }
+        ensures told { result ≡ false
+            → Some (last_bytes self.new.begun) ≡ Some (last_bytes self.old.begun) }
         ensures beside { result ≡ false → last_name self.new.begun ≡ last_name self.old.begun }
         ensures exactly { result ≡ not (is_refused self.old name.now) }
-        ensures plan { self.new.plan ≡ after_call self.old.plan (not result) }
+        ensures failing { self.new.failing ≡ after_call self.old.failing (not result) }
         ensures room { result ≡ true → self.new.room + length name.now ≡ self.old.room }
         ensures spare { result ≡ true → self.new.spare + 1 ≡ self.old.spare }
+        ensures refused { result ≡ false → (self.new.begun ≡ self.old.begun)
+            × (self.new.room ≡ self.old.room) × (self.new.spare ≡ self.old.spare) }
         ensures most { self.new.most ≡ self.old.most }
     {
-        let refused = self.plan.is_due() || (self.unused.is_empty() || self.room < name.len());
-        self.plan.count(refused);
+        let refused = self.failing.is_due() || (self.unused.is_empty() || self.room < name.len());
+        self.failing.count(refused);
         if refused {
             return false;
         }

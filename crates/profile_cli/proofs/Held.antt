@@ -7,12 +7,13 @@ use Rattle.std.proofs.lemmas.List.{length-map, length-replicate, get_or_default,
 use Rattle.std.proofs.lemmas.List as list
 use Rattle.std.proofs.Math.ListN as listn
 use Rattle.std.proofs.lemmas.List.Sums.{sum_by-append}
+use Rattle.flow_io.specs.Reading.{IfHeld}
 use Rattle.flow_io.specs.Flow.{Files, file_named, HoldsNone, Rose}
 use Rattle.profile_cli.specs.declared.ending.Ending.{Ending}
 use Rattle.profile_cli.specs.declared.ending.Ending.TheVariants.{OutOfMemory, Unread, TooLarge, TooMuch}
 use Rattle.profile_cli.specs.Input.{AreRead, IsDue, IsInput, IsMissing, IsReached, IsRead, IsTooLarge, IsTooMuch, StopsReading, input_of, name_at, texts_of}
 use Rattle.profile_cli.specs.Input.IsDue.{missing, too_large, too_much}
-use Rattle.profile_cli.specs.Texts.{IfHeld, bytes_of, input_limit, text_limit}
+use Rattle.profile_cli.specs.Texts.{bytes_of, input_limit, text_limit}
 
 bytes_named : Files → List ℕ → List ℕ
 bytes_named held name = unwrap_or (file_named held name) []
@@ -201,7 +202,3 @@ sum_more texts text = sum_by-append length texts (text ∷ []) ∙ ap (λ (k : �
 
 pub sum_pushed : (texts more : List (List ℕ)) (text : List ℕ) (total size : ℕ) → more ≡ texts ++ text ∷ [] → total ≡ sum_by length texts → size ≡ length text → total + size ≡ sum_by length more
 sum_pushed texts more text total size e t s = let m = ap (sum_by length) e ∙ sum_more texts text in omega arith
-
-pub rose_wider : (before after first last : ℕ) → first ≤ before → after ≤ last → Rose before after → Rose first last
-rose_wider before after first last early late (inl rose) = inl (omega arith)
-rose_wider before after first last early late (inr end) = inr (omega arith)

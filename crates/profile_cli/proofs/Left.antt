@@ -1,5 +1,5 @@
 -- What a run leaves, by where it ended.
-use Rattle.std.proofs.Common.{◌≡◌, ℕ, ◌≤◌, arith, length, refl, sym, ap, subst, inl, inr}
+use Rattle.std.proofs.Common.{◌≡◌, ℕ, length, refl, sym, ap, subst, inl, inr}
 use Rattle.std.specs.Prelude.{List, Option, Some, None, ◌⊎◌, Ok, Result}
 use Rattle.flow_io.specs.Clock.{Ticks}
 use Rattle.flow_io.specs.Flow.{Files, Rose}
@@ -12,7 +12,7 @@ use Rattle.profile_cli.specs.Messages.{Messages, Says}
 use Rattle.profile_cli.specs.Input.{CanRun, Input, IsDue, IsInput, StopsReading, input_of}
 use Rattle.profile_cli.specs.Input.IsDue.{done}
 use Rattle.profile_cli.specs.Queue.{ClosedQueue, IsQueueOf}
-use Rattle.profile_cli.specs.Run.{Closes, Ends, IsStopped, Leaves, Reported, RunLeaves, names_by, names_of}
+use Rattle.profile_cli.specs.Run.{Closes, Ends, IsStopped, Leaves, Reported, RunLeaves, SourceFaults, names_by, names_of}
 use Rattle.profile_cli.specs.Usage.{Asked}
 use Rattle.profile_cli.specs.Written.{OutFaults, Outputs, StoreFaults, Writes, documents_of}
 use Rattle.profile_cli.proofs.Due.{due_once}
@@ -30,15 +30,15 @@ module _ (piece : ℕ) (input : Input) (rose : Type 0) where
 
 out_same : (ending : Ending) (n : ℕ) → Closes ending None → OutFaults ending n n
 out_same CountsUnwritten n c = cc
-out_same ending n c = omega arith
+out_same ending n c = refl
 
 store_same : (ending : Ending) (n : ℕ) → Closes ending None → StoreFaults ending n n
 store_same TraceUnwritten n c = cc
-store_same ending n c = omega arith
+store_same ending n c = refl
 
 -- a run that ended before it closed a queue
 pub left_before : (asked : Asked) (files : Option Files) (clock : ℕ → Option Ticks) (before after : ℕ) (outputs : Outputs) (ending : Ending)
-    → Closes ending None → before ≤ after
+    → Closes ending None → SourceFaults ending before after
     → (texts : List (List ℕ)) × (IsInput (input_of (names_of asked) files texts) × (IsDue asked.piece (input_of (names_of asked) files texts) ending ⊎ StopsReading (input_of (names_of asked) files texts) (Rose before after) ending))
     → Leaves (Ok asked) files (record { queue = None; clock = clock; faults_before = before; faults_after = after; before = outputs; after = outputs }) ending
 left_before asked files clock before after outputs ending closes faults left =
@@ -82,9 +82,13 @@ module _ (piece : ℕ) (input : Input) (rose : Type 0) (counts : List ℕ) (asks
   closes_behind TooMuch queue w = absurd w
   closes_behind TooManyPieces queue w = absurd w
 
+  source_behind : (ending : Ending) (old new : ℕ) → new ≡ old → Writes counts asks before after ending → SourceFaults ending old new
+  source_behind (Unread n) old new e w = absurd w
+  source_behind ending old new e w = e
+
 -- a run that closed its queue, and then wrote what it could
 pub left_behind : (asked : Asked) (files : Option Files) (clock : ℕ → Option Ticks) (texts : List (List ℕ)) (old new : ℕ) (before after : Outputs) (ending : Ending) (queue : ClosedQueue)
-    → old ≤ new → IsInput (input_of (names_of asked) files texts) × CanRun (input_of (names_of asked) files texts) asked.piece
+    → new ≡ old → IsInput (input_of (names_of asked) files texts) × CanRun (input_of (names_of asked) files texts) asked.piece
     → IsQueueOf asked texts clock queue
     → OutFaults ending before.out_faults after.out_faults → StoreFaults ending before.store_faults after.store_faults
     → Writes (counts_text_of (counts_of_all texts)) (documents_of asked (names_of asked) queue) before after ending
@@ -99,7 +103,7 @@ left_behind asked files clock texts old new before after ending queue same input
       record {
         cause = cause;
         complete = λ due asks. due_or_stopped asked.piece whole (Rose old new) ending due cause asks;
-        source = same;
+        source = source_behind asked.piece whole (Rose old new) text asks before after ending old new same w;
         out = out;
         store = store;
         closes = closes_behind asked.piece whole (Rose old new) text asks before after ending queue w;

@@ -1,4 +1,3 @@
-pub mod Given
 pub mod Stored
 pub mod Accepted
 pub mod Held

@@ -20,8 +20,8 @@ input_of names files texts = record { names = names; files = files; texts = text
 abbrev pub texts_of : Files → List (List ℕ) → List (List ℕ)
 texts_of held names = map (λ name. unwrap_or (file_named held name) []) names
 
--- there is one text for each name, and where the source tells its files, the text is what the file of
--- that name holds
+-- there is one text for each name, and where the source tells its files, the text is what the file
+-- of that name holds
 pub record IsInput (input : Input) : Type 0 where
   pub number : length input.texts ≡ length input.names
   pub held : IfSome input.files (λ held. input.texts ≡ texts_of held input.names)

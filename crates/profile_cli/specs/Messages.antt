@@ -1,13 +1,9 @@
 -- What the command says.
-use Rattle.std.specs.Prelude.{◌≡◌, ℕ, ◌⊎◌, List, Option}
-use Rattle.flow_io.specs.Flow.{Rose, gained, GainedPart}
+use Rattle.std.specs.Prelude.{◌≡◌, ℕ, List, Option}
+use Rattle.flow_io.specs.Saying.{Said}
 use Rattle.profile_cli.specs.declared.ending.Ending.{Ending}
 use Rattle.profile_cli.specs.declared.ending.Ending.TheVariants.{Done}
 use Rattle.profile_cli.specs.Endings.{message_of}
-
--- a sink gained this text, or failed behind a shorter prefix of it
-abbrev pub Said : Option (List ℕ) → Option (List ℕ) → ℕ → ℕ → List ℕ → Type 0
-Said old new before now text = (new ≡ gained old text) ⊎ (Rose before now × GainedPart old new text)
 
 -- the sink of messages at one moment: what it tells, and how often it has failed
 pub record Messages : Type 0 where

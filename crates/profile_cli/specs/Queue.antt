@@ -51,9 +51,10 @@ IsOutcome RetryNew shape accepted taken left = RetryOutcome accepted taken left
 IsOutcome DropOld shape accepted taken left =
     (taken ≡ []) × DropOutcome shape accepted taken left
 
--- the queue of a run over these texts: it has the asked mode and shape, and all that it had accepted
--- stands in one order, each worker's spans whole and in its order
-pub record IsQueueOf (asked : Asked) (texts : List (List ℕ)) (clock : ℕ → Option Ticks) (queue : ClosedQueue) : Type 0 where
+-- the queue of a run over these texts: it has the asked mode and shape, and all that it had
+-- accepted stands in one order, each worker's spans whole and in its order
+pub record IsQueueOf (asked : Asked) (texts : List (List ℕ)) (clock : ℕ → Option Ticks)
+    (queue : ClosedQueue) : Type 0 where
   pub mode : queue.mode ≡ mode_for asked
   pub shape : queue.shape ≡ shape_for asked
   pub order : places queue.accepted ≡ numbers_below (length queue.accepted)

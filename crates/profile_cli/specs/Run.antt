@@ -13,8 +13,8 @@ use Rattle.profile_cli.specs.Queue.{ClosedQueue, IsQueueOf}
 use Rattle.profile_cli.specs.Usage.{Asked}
 use Rattle.profile_cli.specs.Written.{IsKept, OutFaults, Outputs, StoreFaults, Writes, documents_of}
 
--- the queue that was closed, if any, what the clock tells, and the source's count of faults, the output
--- and the trace store before and after
+-- the queue that was closed, if any, what the clock tells, and the source's count of faults, the
+-- output and the trace store before and after
 pub record Run : Type 0 where
   pub queue : Option ClosedQueue
   pub clock : ℕ → Option Ticks
@@ -27,8 +27,13 @@ pub record Run : Type 0 where
 abbrev pub names_of : Asked → List (List ℕ)
 names_of asked = asked.files
 
--- what stops a run before the ending that its input asks for: want of memory, or a count of faults that
--- rose
+-- the source's count of faults rises only where a text can't be read
+abbrev pub SourceFaults : Ending → ℕ → ℕ → Type 0
+SourceFaults (Unread n) before now = before ≤ now
+SourceFaults other before now = now ≡ before
+
+-- what stops a run before the ending that its input asks for: want of memory, or a count of faults
+-- that rose
 abbrev pub IsStopped : ℕ → Input → Type 0 → Ending → Type 0
 IsStopped piece input rose CountsUnwritten = CanRun input piece
 IsStopped piece input rose TraceUnwritten = CanRun input piece
@@ -51,14 +56,14 @@ RunWrites asked input before after ending (Some queue) =
 
 -- what a run of this input leaves that ended so
 pub record RunLeaves (asked : Asked) (input : Input) (run : Run) (ending : Ending) : Type 0 where
-  -- it ended as the input asks, or was stopped before; and the other way round, as the input asks unless
-  -- it was stopped before
+  -- it ended as the input asks, or was stopped before; and whatever the input asks for came about,
+  -- or the run was stopped before
   pub cause : IsDue asked.piece input ending
       ⊎ IsStopped asked.piece input (Rose run.faults_before run.faults_after) ending
   pub complete : (due : Ending) → IsDue asked.piece input due → (ending ≡ due)
       ⊎ IsStopped asked.piece input (Rose run.faults_before run.faults_after) ending
-  -- the counts of faults
-  pub source : run.faults_before ≤ run.faults_after
+  -- no fault is passed over
+  pub source : SourceFaults ending run.faults_before run.faults_after
   pub out : OutFaults ending run.before.out_faults run.after.out_faults
   pub store : StoreFaults ending run.before.store_faults run.after.store_faults
   -- the queue, and what is written
@@ -73,8 +78,8 @@ pub record RefusalLeaves (refusal : Refusal) (run : Run) (ending : Ending) : Typ
   pub closes : run.queue ≡ None
   pub outputs : run.after ≡ run.before
 
--- what the command leaves, by what its words ask: of some texts, one for each that is asked, those that
--- the source holds where it tells its files
+-- what the command leaves, by what its words ask: of some texts, one for each that is asked, those
+-- that the source holds where it tells its files
 abbrev pub Leaves : Result Asked Refusal → Option Files → Run → Ending → Type 0
 Leaves (Ok asked) files run ending =
     (texts : List (List ℕ)) × IsInput (input_of (names_of asked) files texts)
@@ -92,7 +97,8 @@ pub record Reported : Type 0 where
   pub detail : ℕ
 
 -- it ended so that this is its report, this was said, and this is left
-pub record Ends (usage : Result Asked Refusal) (files : Option Files) (report : Reported) (said : Messages × Messages) (run : Run) : Type 0 where
+pub record Ends (usage : Result Asked Refusal) (files : Option Files) (report : Reported)
+    (said : Messages × Messages) (run : Run) : Type 0 where
   pub ending : Ending
   pub status : report.status ≡ status_of ending
   pub detail : report.detail ≡ detail_of ending

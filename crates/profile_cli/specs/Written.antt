@@ -1,5 +1,5 @@
 -- What a run writes: the counts, and behind them the documents of the trace store.
-use Rattle.std.specs.Prelude.{◌≡◌, ℕ, ◌<◌, ◌≤◌, ◌⊎◌, List, [], ◌∷◌, ◌++◌, length, map, take, Option, Some, None, IfSome}
+use Rattle.std.specs.Prelude.{◌≡◌, ℕ, ◌<◌, ◌⊎◌, List, [], ◌∷◌, ◌++◌, length, map, take, Option, Some, None, IfSome}
 use Rattle.flow_io.specs.Flow.{Files, Rose, gained, GainedPart}
 use Rattle.rail.specs.declared.entry.Placed.{Placed}
 use Rattle.span_words.specs.declared.span.SpanEvent.{SpanEvent}
@@ -26,10 +26,12 @@ Spell events entries = map spelling events ≡ map (λ (i : Placed). i.words) en
 
 -- the documents that these results make, in order: the trace
 abbrev pub asks_of : Results → Files
-asks_of results = (results.trace.now, trace_text (bytes_of results.names.now) results.accepted results.events.now) ∷ []
+asks_of results =
+    let names = bytes_of results.names.now in
+    (results.trace.now, trace_text names results.accepted results.events.now) ∷ []
 
--- the documents that are asked of a closed queue, where the texts have these names: the trace of what
--- it lists, with how many spans were accepted
+-- the documents that are asked of a closed queue, where the texts have these names: the trace of
+-- what it lists, with how many spans were accepted
 abbrev pub documents_of : Asked → List (List ℕ) → ClosedQueue → Files
 documents_of asked names queue =
     (asked.trace, trace_text names (length queue.accepted) (events_of (listed queue))) ∷ []
@@ -84,12 +86,12 @@ Writes counts asks before after OutOfMemory = IsKept before after
     ⊎ IsHalted counts asks before after
 Writes counts asks before after other = ⊥
 
--- the output's count of faults never falls, and rises where the counts can't be written
+-- the output's count of faults rises where the counts can't be written, and nowhere else
 abbrev pub OutFaults : Ending → ℕ → ℕ → Type 0
 OutFaults CountsUnwritten before now = Rose before now
-OutFaults other before now = before ≤ now
+OutFaults other before now = now ≡ before
 
--- the trace store's count of faults never falls, and rises where the trace can't be written
+-- the trace store's count of faults rises where the trace can't be written, and nowhere else
 abbrev pub StoreFaults : Ending → ℕ → ℕ → Type 0
 StoreFaults TraceUnwritten before now = Rose before now
-StoreFaults other before now = before ≤ now
+StoreFaults other before now = now ≡ before

@@ -24,7 +24,8 @@ pub struct Ended<R: Rails> {
     pub closed: Closed<R>,
 }
 
-/// Reads the texts that are asked for, counts their words by workers that note their spans in a queue, and writes the counts and the trace.
+/// Reads the texts that are asked for, counts their words by workers that note their spans in a
+/// queue, and writes the counts and the trace.
 pub fn carry_out<
     X: Threads + Wait + Sync,
     F: Source,
@@ -49,7 +50,7 @@ pub fn carry_out<
     ensures leaves { Leaves (Ok (asked_of options.now)) (F.files files.old) (record {
       queue = queue_of R.Retry.done_shape R.Retry.done_accepted R.Retry.done_taken
           R.Retry.done_left result.closed;
-      clock = λ _. C.ticks clock.now;
+      clock = C.ticks clock.now;
       faults_before = F.faults files.old;
       faults_after = F.faults files.new;
       before = record {

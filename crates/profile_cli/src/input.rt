@@ -2,7 +2,7 @@ ghost use Rattle.std.specs.Prelude.{None, ◌≡◌, ℕ, ◌+◌, ◌<◌, ◌�
 ghost use Rattle.flow_io.specs.Flow.{Rose};
 ghost use Rattle.word_text.specs.Pieces.{plan_of};
 ghost use Rattle.profile_cli.specs.Input.{CanRun, IsDue, IsInput, StopsReading, input_of};
-ghost use Rattle.profile_cli.specs.Run.{Closes};
+ghost use Rattle.profile_cli.specs.Run.{Closes, SourceFaults};
 ghost use Rattle.profile_cli.specs.Texts.{bytes_of, input_limit};
 
 use crate::ending::Ending;
@@ -28,7 +28,7 @@ pub fn read_input<F: Source>(
 ) -> Result<Planned, Ending>
     requires { 0 < options.now.piece }
     ensures files { F.files files.new ≡ F.files files.old }
-    ensures later { F.faults files.old ≤ F.faults files.new }
+    ensures quiet { IfOk result (λ _. F.faults files.new ≡ F.faults files.old) }
     ensures size { IfOk result (λ planned. sum_by length planned.texts.items ≤ input_limit) }
     ensures plan { IfOk result (λ planned.
         planned.plan ≡ plan_of planned.texts.items options.now.piece) }
@@ -36,6 +36,8 @@ pub fn read_input<F: Source>(
         let input = input_of (bytes_of options.now.files.now) (F.files files.old)
         planned.texts.items in IsInput input × CanRun input options.now.piece) }
     ensures unrun { IfErr result (λ ending. Closes ending None) }
+    ensures faults { IfErr result (λ ending.
+        SourceFaults ending (F.faults files.old) (F.faults files.new)) }
     ensures stopped { IfErr result (λ ending. (texts : List (List ℕ)) × (
         let input = input_of (bytes_of options.now.files.now) (F.files files.old) texts in
         IsInput input × (IsDue options.now.piece input ending

@@ -10,7 +10,6 @@ mod plans;
 mod profiling;
 mod queue_run;
 mod rails;
-mod reading;
 mod solo_rails;
 mod texts;
 mod writing;

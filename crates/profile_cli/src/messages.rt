@@ -1,10 +1,10 @@
-ghost use Rattle.std.specs.Prelude.{◌≡◌, ◌≤◌, ◌++◌, [], ◌∷◌};
+ghost use Rattle.std.specs.Prelude.{◌≡◌};
 ghost use Rattle.profile_cli.specs.Endings.{first_part, subject_of};
-ghost use Rattle.profile_cli.specs.Messages.{Said, Says};
+ghost use Rattle.profile_cli.specs.Messages.{Says};
 ghost use Rattle.profile_cli.specs.Texts.{bytes_of};
 
 use crate::ending::Ending;
-use flow_io::{Sink, write_all};
+use flow_io::{Sink, say};
 
 /// Says how the command ended; nothing where all was done.
 pub fn say_ending<M: Sink>(messages: &mut M, ending: Ending, names: &[String])
@@ -19,23 +19,6 @@ pub fn say_ending<M: Sink>(messages: &mut M, ending: Ending, names: &[String])
         Ending::Done => {}
         _ => say(messages, first_part(ending), subject(ending, names)),
     }
-}
-
-/// Writes a message in three parts, up to the first failure.
-fn say<M: Sink>(messages: &mut M, text: &[u8], name: &[u8])
-    requires { M.ready messages.old }
-    ensures ready { M.ready messages.new }
-    ensures beside { M.beside messages.new ≡ M.beside messages.old }
-    ensures said { Said (M.told messages.old) (M.told messages.new)
-        (M.faults messages.old) (M.faults messages.new) (text.now ++ (name.now ++ 10 ∷ [])) }
-{
-    if !write_all(messages, text) {
-        return;
-    }
-    if !write_all(messages, name) {
-        return;
-    }
-    let _ = write_all(messages, b"\n");
 }
 
 // The message of an ending, up to a word or a name.

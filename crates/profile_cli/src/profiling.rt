@@ -17,7 +17,8 @@ use std::sync::Wait;
 use std::thread::Threads;
 use word_workers::Gate;
 
-/// All that the command does: it counts the words of the FILEs by workers that note their spans in a queue, and writes the counts, the trace and, where it can't, a message.
+/// All that the command does: it counts the words of the FILEs by workers that note their spans in
+/// a queue, and writes the counts, the trace and, where it can't, a message.
 pub fn profile<
     X: Threads + Wait + Sync,
     F: Source,
@@ -49,7 +50,7 @@ pub fn profile<
         (record {
           queue = queue_of R.Retry.done_shape R.Retry.done_accepted R.Retry.done_taken
               R.Retry.done_left result.closed;
-          clock = λ _. C.ticks clock.now;
+          clock = C.ticks clock.now;
           faults_before = F.faults files.old;
           faults_after = F.faults files.new;
           before = record {

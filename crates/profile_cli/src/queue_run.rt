@@ -48,7 +48,7 @@ pub fn run_retry_new<X: Threads + Wait + Sync, C: Clock, G: Gate, R: Rails>(
     requires size { sum_by length texts.now ≤ input_limit }
     ensures counts { IfOk result (λ ran. ran.counts ≡ counts_of_all texts.now) }
     ensures queue { IfOk result (λ ran.
-        IsQueueOf (asked_of options.now) texts.now (λ _. C.ticks clock.now) (record {
+        IsQueueOf (asked_of options.now) texts.now (C.ticks clock.now) (record {
           mode = RetryNew;
           shape = R.Retry.done_shape ran.done;
           accepted = R.Retry.done_accepted ran.done;
@@ -66,7 +66,8 @@ pub fn run_retry_new<X: Threads + Wait + Sync, C: Clock, G: Gate, R: Rails>(
     run_through(rt, alloc, options, plan, texts, rail, seats, clock, gate)
 }
 
-/// Runs all workers through a queue that keeps all, closes it, and reads the spans that it had accepted.
+/// Runs all workers through a queue that keeps all, closes it, and reads the spans that it had
+/// accepted.
 fn run_through<X: Threads + Wait + Sync, Q: Rail, C: Clock, G: Gate>(
     rt: &X,
     alloc: Global,
@@ -90,7 +91,7 @@ fn run_through<X: Threads + Wait + Sync, Q: Rail, C: Clock, G: Gate>(
     requires fresh { All (λ seat. (Q.made seat ≡ []) × (Q.taken seat ≡ [])) seats.items }
     ensures counts { IfOk result (λ ran. ran.counts ≡ counts_of_all texts.now) }
     ensures queue { IfOk result (λ ran.
-        IsQueueOf (asked_of options.now) texts.now (λ _. C.ticks clock.now) (record {
+        IsQueueOf (asked_of options.now) texts.now (C.ticks clock.now) (record {
           mode = RetryNew;
           shape = Q.done_shape ran.done;
           accepted = Q.done_accepted ran.done;

@@ -1,17 +1,13 @@
 ghost use Rattle.std.specs.Prelude.{None, ◌≡◌, ℕ, List, length, sum_by, IfOk, IfErr, MatchResult, ◌≤◌, ◌⊎◌};
 ghost use Rattle.flow_io.specs.Flow.{Rose};
 ghost use Rattle.profile_cli.specs.Input.{AreRead, IsDue, IsInput, StopsReading, input_of};
-ghost use Rattle.profile_cli.specs.Run.{Closes};
+ghost use Rattle.profile_cli.specs.Run.{Closes, SourceFaults};
 ghost use Rattle.profile_cli.specs.Texts.{bytes_of, input_limit};
 
 use crate::ending::Ending;
-use crate::reading::{Reading, read_text};
-use flow_io::Source;
+use flow_io::{MOST_INPUT, MOST_TEXT, Reading, Source, read_text};
 use std::alloc::Global;
 use word_text::Text;
-
-/// The most bytes that all texts have together.
-const MOST_INPUT: usize = 268_435_456;
 
 /// Reads the texts of all files in order.
 pub fn read_all<F: Source>(
@@ -20,12 +16,14 @@ pub fn read_all<F: Source>(
     names: &[String],
 ) -> Result<Vec<Text>, Ending>
     ensures files { F.files files.new ≡ F.files files.old }
-    ensures later { F.faults files.old ≤ F.faults files.new }
+    ensures quiet { IfOk result (λ _. F.faults files.new ≡ F.faults files.old) }
     ensures size { IfOk result (λ texts. sum_by length texts.items ≤ input_limit) }
     ensures read { IfOk result (λ texts.
         let input = input_of (bytes_of names.now) (F.files files.old) texts.items in
         IsInput input × AreRead input (length input.names)) }
     ensures unrun { IfErr result (λ ending. Closes ending None) }
+    ensures faults { IfErr result (λ ending.
+        SourceFaults ending (F.faults files.old) (F.faults files.new)) }
     ensures stopped { IfErr result (λ ending. (texts : List (List ℕ)) × (
         let input = input_of (bytes_of names.now) (F.files files.old) texts in
         IsInput input × ((piece : ℕ) → IsDue piece input ending
@@ -35,7 +33,7 @@ pub fn read_all<F: Source>(
     let mut total = 0;
     for name in names {
         let number = texts.len() as u64;
-        let text = match read_text(alloc, files, name.as_str()) {
+        let text = match read_text(alloc, files, name.as_str(), MOST_TEXT) {
             Reading::Whole(text) => text,
             Reading::TooLarge(_) => return Err(Ending::TooLarge(number)),
             Reading::Unread => return Err(Ending::Unread(number)),

@@ -13,7 +13,8 @@ use std::alloc::{AllocError, Global};
 use trace_json::{TraceError, write_trace};
 use word_text::{Counts, counts_text};
 
-/// What is to be written: the counts, and the trace of these spans, of so many that were accepted, where the texts have these names.
+/// What is to be written: the counts, and the trace of these spans, of so many that were accepted,
+/// where the texts have these names.
 #[derive(Clone, Copy)]
 pub struct Results<'a> {
     pub counts: &'a Counts,
@@ -40,7 +41,9 @@ fn store_trace<T: TraceStore>(
         (asks_of results.now)) }
     ensures cause { IsErrOf result TraceError.Fault
         → Rose (T.faults trace.old) (T.faults trace.new) }
-    ensures later { T.faults trace.old ≤ T.faults trace.new }
+    ensures quiet { OnOk result (T.faults trace.new ≡ T.faults trace.old) }
+    ensures sound { IsErrOf result TraceError.Memory
+        → T.faults trace.new ≡ T.faults trace.old }
 {
     if !trace.begin(results.trace) {
         return Err(TraceError::Fault);

@@ -39,6 +39,7 @@ fn hand_over<O: Sink>(sink: &mut O, text: &mut Vec<u8>) -> Result<(), TraceError
     ensures beside { O.beside sink.new ≡ O.beside sink.old }
     ensures ok { OnOk result (O.told sink.new ≡ gained (O.told sink.old) text.old.items) }
     ensures empty { OnOk result (text.new.items ≡ []) }
+    ensures quiet { OnOk result (O.faults sink.new ≡ O.faults sink.old) }
     ensures kind { IfErr result (λ e. e ≡ TraceError.Fault) }
     ensures part { OnErr result (GainedPart (O.told sink.old) (O.told sink.new) text.old.items) }
     ensures cause { OnErr result (Rose (O.faults sink.old) (O.faults sink.new)) }
@@ -59,6 +60,7 @@ fn hand_over_full<O: Sink>(sink: &mut O, text: &mut Vec<u8>) -> Result<(), Trace
     ensures ok { OnOk result
         (HandsOver (O.told sink.old) (O.told sink.new) text.old.items text.new.items) }
     ensures short { OnOk result (length text.new.items < FULL) }
+    ensures quiet { OnOk result (O.faults sink.new ≡ O.faults sink.old) }
     ensures kind { IfErr result (λ e. e ≡ TraceError.Fault) }
     ensures part { OnErr result (GainedPart (O.told sink.old) (O.told sink.new) text.old.items) }
     ensures cause { OnErr result (Rose (O.faults sink.old) (O.faults sink.new)) }
@@ -101,6 +103,9 @@ pub fn write_trace<O: Sink>(
         (trace_text (map string_bytes files.now) accepted events.now)) }
     ensures cause { IsErrOf result TraceError.Fault
         → Rose (O.faults sink.old) (O.faults sink.new) }
+    ensures quiet { OnOk result (O.faults sink.new ≡ O.faults sink.old) }
+    ensures sound { IsErrOf result TraceError.Memory
+        → O.faults sink.new ≡ O.faults sink.old }
 {
     let mut text = Vec::with_capacity(alloc, FULL)?;
     push_head(&mut text, accepted, events.len())?;

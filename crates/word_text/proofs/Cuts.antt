@@ -3,7 +3,7 @@ use Rattle.std.proofs.Common.{◌≡◌, ℕ, zero, suc, ◌+◌, ◌-◌, ◌*�
 use Rattle.std.specs.List.{slice_split, onto_first, filter, flat_map, position_or_len, All}
 use Rattle.std.proofs.lemmas.Bool.{cases_lt}
 use Rattle.std.proofs.lemmas.List.{drop-drop}
-use Rattle.std.proofs.lemmas.List.Elements.{filter-append, All-nil, All-cons, All-head, All-tail, All-weaker}
+use Rattle.std.proofs.lemmas.List.Elements.{filter-append, All-append, All-nil, All-cons, All-head, All-tail, All-weaker}
 use Rattle.std.proofs.lemmas.Grind.{flat_map-append}
 use Rattle.std.proofs.lemmas.List.Sums.{prefix_len-le-length, fails_before_first, passes_at_first}
 use Rattle.std.proofs.Math.Nat.{suc-mul}
@@ -132,6 +132,12 @@ pub left_pieces-nil : (text : List ℕ) (file k a : ℕ) → length text ≤ a �
 left_pieces-nil text file k a ge = ap (λ rest. pieces_from (length rest) file k a rest) (drop_of_length-le text ge)
 
 -- ---- what holds of all pieces, from the first on
+-- the piece is of the text of this number
+record IsOf (text : List ℕ) (number : ℕ) (p : Piece) : Type 0 where
+  file : p.file ≡ number
+  order : p.start ≤ p.end
+  within : p.end ≤ length text
+
 module _ (text : List ℕ) (file k : ℕ) (pos : 0 < k) where
   are_pieces_from : (n a : ℕ) (rest : List ℕ) → rest ≡ drop a text → a ≤ length text → length rest ≤ n → ArePieces text file k a (pieces_from n file k a rest)
   are_pieces_from n a [] e le h = let left : length text - a ≡ 0 = sym (length-drop a text) ∙ ap length (sym e) in rw (pieces_from-nil n file k a) (omega arith)
@@ -202,8 +208,8 @@ module _ (text : List ℕ) (file k : ℕ) (pos : 0 < k) where
   pub number_of_pieces : length (pieces_of text file k) * k < length text + k
   number_of_pieces = number_from (length text) 0 text (omega arith)
 
-  inside_from : (n a : ℕ) (rest : List ℕ) → rest ≡ drop a text → length rest ≤ n → All (LiesIn text file) (pieces_from n file k a rest)
-  inside_from n a [] e h = rw (pieces_from-nil n file k a) (All-nil (LiesIn text file))
+  inside_from : (n a : ℕ) (rest : List ℕ) → rest ≡ drop a text → length rest ≤ n → All (IsOf text file) (pieces_from n file k a rest)
+  inside_from n a [] e h = rw (pieces_from-nil n file k a) (All-nil (IsOf text file))
   inside_from zero a (b ∷ bs) e h = absurd (omega arith)
   inside_from (suc n) a (b ∷ bs) e h =
       let l = piece_len k (b ∷ bs) in
@@ -211,10 +217,10 @@ module _ (text : List ℕ) (file k : ℕ) (pos : 0 < k) where
       let fits : l ≤ length (b ∷ bs) = piece_len-le k (b ∷ bs) in
       let all : length (b ∷ bs) ≡ length text - a = ap length e ∙ length-drop a text in
       let left : length (drop l (b ∷ bs)) ≡ length (b ∷ bs) - l = length-drop l (b ∷ bs) in
-      All-cons (LiesIn text file) _ _ (record { file = refl; some = omega arith; within = omega arith })
+      All-cons (IsOf text file) _ _ (record { file = refl; order = omega arith; within = omega arith })
       (inside_from n (a + l) (drop l (b ∷ bs)) (ap (drop l) e ∙ drop-drop l a text) (omega arith))
 
-  pub pieces_inside : All (LiesIn text file) (pieces_of text file k)
+  pieces_inside : All (IsOf text file) (pieces_of text file k)
   pieces_inside = inside_from (length text) 0 text refl (omega arith)
 
 -- ---- the pieces of several texts
@@ -228,10 +234,26 @@ words_of_plan_from all file k (text ∷ texts) pos e =
     let here : slice_index_or all file [] ≡ text = sym (ap (λ i. slice_index_or all i []) (add-zero file)) ∙ sym (get_or-drop file all 0 []) ∙ ap (λ ts. slice_index_or ts 0 []) e in
     let behind : drop (file + 1) all ≡ texts = sym (drop-drop 1 file all) ∙ ap (drop 1) e in
     let same : All (λ p. words_of (plan_bytes all p) ≡ words_of (piece_bytes text p)) (pieces_of text file k) =
-    All-weaker (LiesIn text file) _ (λ p h. ap (λ t. words_of (piece_bytes t p)) (ap (λ i. slice_index_or all i []) h.file ∙ here)) _ (pieces_inside text file k pos) in
+    All-weaker (IsOf text file) _ (λ p h. ap (λ t. words_of (piece_bytes t p)) (ap (λ i. slice_index_or all i []) h.file ∙ here)) _ (pieces_inside text file k pos) in
     flat_map-append (λ p. words_of (plan_bytes all p)) (pieces_of text file k) (plan_from (file + 1) k texts)
     ∙ ap (λ ws. ws ++ flat_map (λ p. words_of (plan_bytes all p)) (plan_from (file + 1) k texts)) (flat_map-same _ _ (pieces_of text file k) same ∙ words_of_pieces text file k pos)
     ∙ ap (λ ws. words_of text ++ ws) (words_of_plan_from all (file + 1) k texts pos behind)
+
+inside_plan : (all : List (List ℕ)) (file k : ℕ) (texts : List (List ℕ)) → 0 < k → drop file all ≡ texts → All (LiesIn all) (plan_from file k texts)
+inside_plan all file k [] pos e = All-nil (LiesIn all)
+inside_plan all file k (text ∷ texts) pos e =
+    let here : slice_index_or all file [] ≡ text = sym (ap (λ i. slice_index_or all i []) (add-zero file)) ∙ sym (get_or-drop file all 0 []) ∙ ap (λ ts. slice_index_or ts 0 []) e in
+    let there : file < length all = omega (arith, ap length e, length-drop file all) in
+    let behind : drop (file + 1) all ≡ texts = sym (drop-drop 1 file all) ∙ ap (drop 1) e in
+    let mine : All (LiesIn all) (pieces_of text file k) = All-weaker (IsOf text file) (LiesIn all) (λ p h. record {
+      file = subst (λ n. n < length all) (sym h.file) there;
+      order = h.order;
+      within = subst (λ t. p.end ≤ length t) (sym (ap (λ i. slice_index_or all i []) h.file ∙ here)) h.within;
+    }) _ (pieces_inside text file k pos) in
+    All-append (LiesIn all) (pieces_of text file k) (plan_from (file + 1) k texts) mine (inside_plan all (file + 1) k texts pos behind)
+
+pub plan_inside : (texts : List (List ℕ)) (k : ℕ) → 0 < k → All (LiesIn texts) (plan_of texts k)
+plan_inside texts k pos = inside_plan texts 0 k texts pos refl
 
 pub words_of_plan : (texts : List (List ℕ)) (k : ℕ) → 0 < k → flat_map (λ p. words_of (plan_bytes texts p)) (plan_of texts k) ≡ flat_map words_of texts
 words_of_plan texts k pos = words_of_plan_from texts 0 k texts pos refl

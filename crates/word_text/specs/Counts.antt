@@ -30,10 +30,6 @@ abbrev pub add_all : Numbers → List (List ℕ) → Numbers
 add_all counts [] = counts
 add_all counts (word ∷ words) = add_all (add_one counts word) words
 
--- each word's number in a text
-abbrev pub counts_of : List ℕ → Numbers
-counts_of text = add_all map_of.empty (words_of text)
-
 -- each word's number in several texts
 abbrev pub counts_of_all : List (List ℕ) → Numbers
 counts_of_all texts = add_all map_of.empty (flat_map words_of texts)
@@ -74,7 +70,8 @@ line_of e = decimal e.1 ++ 32 ∷ e.0 ++ 10 ∷ []
 
 -- the first line
 abbrev pub head_of : ℕ → ℕ → List ℕ
-head_of words distinct = codes "words " ++ decimal words ++ codes " distinct " ++ decimal distinct ++ 10 ∷ []
+head_of words distinct =
+    codes "words " ++ decimal words ++ codes " distinct " ++ decimal distinct ++ 10 ∷ []
 
 -- the counts text of these words with their numbers
 abbrev pub text_of_entries : List (List ℕ × ℕ) → List ℕ

@@ -4,21 +4,26 @@ use Rattle.std.specs.List.{position_or_len}
 use Rattle.word_text.specs.Words.{is_separator, words_of}
 use Rattle.word_text.specs.declared.plan.Piece.{Piece}
 
--- the piece that starts at a ends at the least place from min (a + k) (length text) on that is the text's end or before a separator
+-- the piece that starts at a ends at the least place from min (a + k) (length text) on that is the
+-- text's end or before a separator
 pub record EndsAt (text : List ℕ) (k a e : ℕ) : Type 0 where
   pub long : min (a + k) (length text) ≤ e
   pub within : e ≤ length text
   pub stops : e < length text → is_separator (slice_index text e) ≡ true
-  pub least : (i : ℕ) → min (a + k) (length text) ≤ i → i < e → is_separator (slice_index text i) ≡ false
+  pub least : (i : ℕ) → min (a + k) (length text) ≤ i → i < e
+      → is_separator (slice_index text i) ≡ false
 
 -- these are the pieces of a text from place a on, each from where the one before it ends
 abbrev pub ArePieces : List ℕ → ℕ → ℕ → ℕ → List Piece → Type 0
 ArePieces text file k a [] = a ≡ length text
-ArePieces text file k a (p ∷ ps) = (a < length text) × (p.file ≡ file) × (p.start ≡ a) × EndsAt text k a p.end × ArePieces text file k p.end ps
+ArePieces text file k a (p ∷ ps) =
+    (a < length text) × (p.file ≡ file) × (p.start ≡ a) × EndsAt text k a p.end
+    × ArePieces text file k p.end ps
 
 -- how long the first piece of what is left of a text is
 abbrev pub piece_len : ℕ → List ℕ → ℕ
-piece_len k rest = min k (length rest) + position_or_len is_separator (drop (min k (length rest)) rest)
+piece_len k rest =
+    min k (length rest) + position_or_len is_separator (drop (min k (length rest)) rest)
 
 -- the pieces of what is left of a text from place a on, n at most
 abbrev pub pieces_from : ℕ → ℕ → ℕ → ℕ → List ℕ → List Piece
@@ -26,7 +31,8 @@ pieces_from zero file k a rest = []
 pieces_from (suc n) file k a [] = []
 pieces_from (suc n) file k a (b ∷ bs) =
     let e = a + piece_len k (b ∷ bs) in
-    record { file = file; start = a; end = e } ∷ pieces_from n file k e (drop (piece_len k (b ∷ bs)) (b ∷ bs))
+    record { file = file; start = a; end = e }
+    ∷ pieces_from n file k e (drop (piece_len k (b ∷ bs)) (b ∷ bs))
 
 -- the pieces of a text in order; there are no more than it has bytes
 abbrev pub pieces_of : List ℕ → ℕ → ℕ → List Piece
@@ -36,11 +42,11 @@ pieces_of text file k = pieces_from (length text) file k 0 text
 abbrev pub piece_bytes : List ℕ → Piece → List ℕ
 piece_bytes text p = slice_range text p.start p.end
 
--- this piece of the text with this number isn't empty, and its bytes are there
-pub record LiesIn (text : List ℕ) (number : ℕ) (p : Piece) : Type 0 where
-  pub file : p.file ≡ number
-  pub some : p.start < p.end
-  pub within : p.end ≤ length text
+-- the piece is of one of these texts, and its bytes are there
+pub record LiesIn (texts : List (List ℕ)) (p : Piece) : Type 0 where
+  pub file : p.file < length texts
+  pub order : p.start ≤ p.end
+  pub within : p.end ≤ length (slice_index_or texts p.file [])
 
 -- the bytes of a piece of one of these texts
 abbrev pub plan_bytes : List (List ℕ) → Piece → List ℕ

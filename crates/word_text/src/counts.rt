@@ -1,4 +1,4 @@
-ghost use Rattle.std.specs.Prelude.{◌≡◌, ℕ, ◌+◌, ◌<◌, ◌≤◌, ◌^◌, List, ◌++◌, ◌⊎◌, length, OnOk, OnErr, IfOk};
+ghost use Rattle.std.specs.Prelude.{◌≡◌, ℕ, ◌+◌, ◌<◌, ◌≤◌, ◌^◌, List, ◌++◌, ◌⊎◌, length, OnOk, OnErr, IfOk, IsOk};
 ghost use Rattle.std.specs.FinMap as map_of;
 ghost use Rattle.std.specs.HashMap.{IsUnchanged};
 ghost use Rattle.word_text.specs.Words.{words_of};
@@ -48,6 +48,7 @@ impl Counts {
         requires some { 0 < number }
         requires room { total self.old + number < 2 ^ 63 }
         ensures ok { OnOk result (self.new ≡ add_number self.old word.now number) }
+        ensures known { 0 < count_in self.old word.now → IsOk result }
         ensures err { OnErr result (self.new ≡ self.old) }
     {
         add_number(alloc, &mut self.table, word, number)
@@ -105,6 +106,7 @@ fn add_number(
     requires { count_in (told table.old.entries) word.now + number < 2 ^ 64 }
     ensures ok { OnOk result
         (told table.new.entries ≡ add_number (told table.old.entries) word.now number) }
+    ensures known { 0 < count_in (told table.old.entries) word.now → IsOk result }
     ensures err { OnErr result (IsUnchanged table.old table.new) }
 {
     match table.get_mut(word) {

@@ -77,6 +77,7 @@ impl Plan {
     fn add(&mut self, piece: Piece) -> Result<(), PlanError>
         ensures ok { OnOk result (self.new ≡ self.old ++ piece ∷ []) }
         ensures full { IsErrOf result PlanError.TooMany ↔ (length self.old ≡ MOST_PIECES) }
+        ensures memory { IsErrOf result PlanError.Memory → length self.old < MOST_PIECES }
         ensures err { OnErr result (self.new ≡ self.old) }
     {
         if self.pieces.len() == MOST_PIECES {
@@ -112,6 +113,7 @@ pub fn pieces(
         → MOST_PIECES < length plan.old + length (pieces_of text.now file k) }
     ensures first_ones { IsErrOf result PlanError.TooMany
         → plan.new ≡ take MOST_PIECES (plan.old ++ pieces_of text.now file k) }
+    ensures memory { IsErrOf result PlanError.Memory → length plan.new < MOST_PIECES }
     ensures err { OnErr result ((done : List Piece) × (left : List Piece)
         × (done ++ left ≡ pieces_of text.now file k) × (plan.new ≡ plan.old ++ done)) }
 {

@@ -42,7 +42,7 @@ names_text texts i s is h e other =
     subst (HasText texts) same h
 
 file_known : (plan : List Piece) (texts : List (List ℕ)) (n : ℕ) → AllLieIn texts plan → n < length plan → (piece_at plan n).file < length texts
-file_known plan texts n inside lt = (inside n (record { file = 0; start = 0; end = 0 }) lt).there
+file_known plan texts n inside lt = (inside n (record { file = 0; start = 0; end = 0 }) lt).file
 
 module _ (plan : List Piece) (texts : List (List ℕ)) (worker : ℕ) (readings drawn : List ℕ) where
   abbrev last_span : SpanEvent

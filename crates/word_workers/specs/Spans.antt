@@ -7,17 +7,11 @@ use Rattle.span_words.specs.declared.span.SpanEvent.{SpanEvent}
 use Rattle.span_words.specs.Span.{duration}
 use Rattle.word_text.specs.declared.plan.Piece.{Piece}
 use Rattle.word_text.specs.Words.{words_of}
-use Rattle.word_text.specs.Pieces.{plan_bytes}
-
--- the piece is a range of the text that it names
-pub record LiesInText (texts : List (List ℕ)) (p : Piece) : Type 0 where
-  pub there : p.file < length texts
-  pub ordered : p.start ≤ p.end
-  pub within : p.end ≤ length (slice_index_or texts p.file [])
+use Rattle.word_text.specs.Pieces.{LiesIn, plan_bytes}
 
 -- each piece lies in its text
 abbrev pub AllLieIn : List (List ℕ) → List Piece → Type 0
-AllLieIn texts plan = All (LiesInText texts) plan
+AllLieIn texts plan = All (LiesIn texts) plan
 
 -- the piece of this number
 abbrev pub piece_at : List Piece → ℕ → Piece

@@ -50,7 +50,7 @@ pub fn run_all<X: Threads + Wait + Sync, R: Rail, C: Clock, G: Gate>(
     ensures counts { IfOk result (λ work. work.counts
         ≡ add_all map_of.empty (plan_words plan.now texts.now)) }
     ensures makes { IfOk result (λ work. RunMakes (flat_map R.made work.seats.items)
-        work.drawn.items workers plan.now texts.now (λ _. C.ticks clock.now)) }
+        work.drawn.items workers plan.now texts.now (C.ticks clock.now)) }
     ensures files { IfOk result (λ work. All (λ i. NamesText (length texts.now) i.words)
         (flat_map R.made work.seats.items)) }
     ensures batches { IfOk result (λ work. IsPermutation

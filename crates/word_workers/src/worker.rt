@@ -5,8 +5,8 @@ ghost use Rattle.cursor_word.specs.Cursor.{most_puts};
 ghost use Rattle.span_recorder.specs.Gain.{GainAlike};
 ghost use Rattle.span_words.specs.Span.{duration};
 ghost use Rattle.word_text.specs.Counts.{add_all, total};
-ghost use Rattle.word_text.specs.Pieces.{plan_bytes};
-ghost use Rattle.word_workers.specs.Spans.{AllLieIn, LiesInText, piece_at, plan_words, words_at};
+ghost use Rattle.word_text.specs.Pieces.{LiesIn, plan_bytes};
+ghost use Rattle.word_workers.specs.Spans.{AllLieIn, piece_at, plan_words, words_at};
 ghost use Rattle.word_workers.specs.Worked.{NotesPiece, Worked};
 
 use crate::drawn::Drawn;
@@ -178,7 +178,7 @@ fn piece_at<'a>(plan: &Plan, texts: &'a [Text], number: u64) -> (u64, &'a [u8])
 
 // The bytes of a piece that lies in its text.
 fn lying_bytes<'a>(texts: &'a [Text], piece: &Piece) -> &'a [u8]
-    requires { LiesInText texts.now piece.now }
+    requires { LiesIn texts.now piece.now }
     ensures { result.now ≡ plan_bytes texts.now piece.now }
 {
     let Some(text) = texts.get(piece.file as usize) else {

@@ -17,12 +17,12 @@ use Rattle.profile_cli.proofs.asked.carry_out.Goals as goal
 pub returns-in-Err-clause-leaves : goal.returns-in-Err-clause-leaves
 returns-in-Err-clause-leaves g c =
     let e = c.in-Err.ensures in
-    left_before (asked_of c.args.options.now) (g.F.Source.files c.args.files.now) (λ _. g.C.Clock.ticks c.args.clock.now) _ _ _ c.in-Err.ending e.unrun e.later e.stopped
+    left_before (asked_of c.args.options.now) (g.F.Source.files c.args.files.now) (g.C.Clock.ticks c.args.clock.now) _ _ _ c.in-Err.ending e.unrun e.faults e.stopped
 
 pub returns-clause-leaves : goal.returns-clause-leaves
 returns-clause-leaves g c =
     let asked = asked_of c.args.options.now in
-    let clock : ℕ → Option Ticks = λ _. g.C.Clock.ticks c.args.clock.now in
+    let clock : ℕ → Option Ticks = g.C.Clock.ticks c.args.clock.now in
     let texts = c.in-Ok.planned.texts.items in
     let whole = c.as_slice-texts.ensures.value in
     let ran = c.in-Ok-ran.ensures in
@@ -38,7 +38,7 @@ returns-clause-leaves g c =
     let listed : asks ≡ documents_of asked (bytes_of c.args.options.now.files.now) queue =
     λ i. (c.args.options.now.trace.now, trace_text (bytes_of c.args.options.now.files.now) (c.accepted.ensures i) (events i)) ∷ [] in
     let by_texts = subst (λ (n : Numbers). Writes (counts_text_of n) asks before after c.write_results-ending.result) counted wrote.writes in
-    left_behind asked (g.F.Source.files c.args.files.now) clock texts (g.F.Source.faults c.args.files.now) (g.F.Source.faults c.read_input.new.files) before after c.write_results-ending.result queue c.in-Ok.ensures.later c.in-Ok.ensures.read
+    left_behind asked (g.F.Source.files c.args.files.now) clock texts (g.F.Source.faults c.args.files.now) (g.F.Source.faults c.read_input.new.files) before after c.write_results-ending.result queue c.in-Ok.ensures.quiet c.in-Ok.ensures.read
     (subst (λ (t : List (List ℕ)). IsQueueOf asked t clock queue) whole ran.queue)
     wrote.out wrote.store
     (subst (λ (d : Files). Writes (counts_text_of (counts_of_all texts)) d before after c.write_results-ending.result) listed by_texts)

@@ -5,7 +5,8 @@ use Rattle.rail.specs.Batch.{Gathered}
 use Rattle.word_text.specs.declared.plan.Piece.{Piece}
 use Rattle.word_workers.specs.Spans.{AllLieIn, plan_words}
 use Rattle.word_workers.specs.Trace.{RunTrace}
-use Rattle.word_workers.proofs.Plans.{plan_inside, plan_words-le}
+use Rattle.word_text.proofs.Cuts.{plan_inside}
+use Rattle.word_workers.proofs.Plans.{plan_words-le}
 use Rattle.word_workers.proofs.Traces.{trace_of_run}
 use Rattle.profile_cli.proofs.Accepted.{events_accepted, files_accepted, gathered_accepted, gathered_apart, spans_below}
 use Rattle.profile_cli.proofs.Planned.{counts_of_plan}
@@ -50,7 +51,7 @@ returns-clause-queue g c =
       shape = c.in-Ok.ensures.shape ∙ c.requires.shape;
       order = c.in-Ok.ensures.accepted.no_gap;
       outcome = c.in-Ok.ensures.retry c.requires.keeps;
-      run = subst (λ (plan : List Piece). RunTrace (g.Q.Rail.done_accepted c.in-Ok.done) c.args.options.now.workers plan c.args.texts.now (λ _. g.C.Clock.ticks c.args.clock.now)) c.requires.plan run;
+      run = subst (λ (plan : List Piece). RunTrace (g.Q.Rail.done_accepted c.in-Ok.done) c.args.options.now.workers plan c.args.texts.now (g.C.Clock.ticks c.args.clock.now)) c.requires.plan run;
     }
 
 pub returns-clause-events : goal.returns-clause-events

@@ -7,7 +7,7 @@ use Rattle.profile_cli.proofs.texts.read_all.Given as goal
 
 abbrev pub invariant-loop-name : goal.invariant-loop-name
 invariant-loop-name g l = record {
-  later : g.F.Source.faults l.fn.files ≤ g.F.Source.faults l.files;
+  quiet : g.F.Source.faults l.files ≡ g.F.Source.faults l.fn.files;
   files : g.F.Source.files l.files ≡ g.F.Source.files l.fn.files;
   number : vec_len l.texts ≡ l.name-index;
   total : l.total ≡ sum_by length l.texts.items;

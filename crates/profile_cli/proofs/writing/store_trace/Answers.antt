@@ -1,4 +1,4 @@
-use Rattle.std.proofs.Common.{◌≡◌, ap, length, rules}
+use Rattle.std.proofs.Common.{◌≡◌, ◌∙◌, ap, length, rules}
 use Rattle.std.proofs.lemmas.Result.{IfErr-weaker, IfOk-weaker}
 use Rattle.flow_io.specs.Flow.{documents}
 use Rattle.profile_cli.proofs.Stored.{stored, stored_none, stored_part}
@@ -16,3 +16,10 @@ returns-clause-whole g c =
 pub returns-clause-part : goal.returns-clause-part
 returns-clause-part g c =
     IfErr-weaker c.write_trace.result _ _ (λ _ part. stored_part _ _ _ _ _ _ _ (c.begin.ensures.begun c.if-not-begin.false) part c.write_trace.ensures.beside) c.write_trace.ensures.part
+
+pub returns-clause-quiet : goal.returns-clause-quiet
+returns-clause-quiet g c =
+    IfOk-weaker c.write_trace.result _ _ (λ _ same. same ∙ c.begin.ensures.quiet c.if-not-begin.false) c.write_trace.ensures.quiet
+
+pub returns-clause-sound : goal.returns-clause-sound
+returns-clause-sound g c = λ memory. c.write_trace.ensures.sound memory ∙ c.begin.ensures.quiet c.if-not-begin.false

@@ -15,6 +15,7 @@ none = record { kind = Worker; tid = 0; ts = 0; dur = 0; file = 0; piece = 0; wo
 pub loop-index-init : goal.loop-index-init
 loop-index-init g c = record {
   later = search rules;
+  quiet = refl;
   ready = c.requires.ready;
   beside = refl;
   pending = pending_head _ (map string_bytes c.args.files.now) c.args.accepted c.args.events.now _ _ _ c.in_ok-text.ensures.items c.in_ok-push_head.ensures c.in_ok-push_threads.ensures;
@@ -32,6 +33,7 @@ loop-index-preserved g c =
     let step = ap (λ l. l ++ codes "}\n") (spans_text-drop names events i none c.loop-index-test.true) ∙ append_assoc more left (codes "}\n") in
     record {
       later = omega arith;
+      quiet = next.quiet ∙ inv.quiet;
       ready = next.ready;
       beside = next.beside ∙ inv.beside;
       pending = pending_handed _ _ _ _ _ _ _ (pending_more _ _ _ _ more _ (left ++ codes "}\n") _ inv.pending step c.in_ok-push_span.ensures) next.ok;
@@ -89,3 +91,6 @@ returns-clause-part g c =
     let last = ap (λ l. l ++ codes "}\n") (spans_text-end (nat_lt 0 i) names events i c.loop-index-test.false) ∙ sym (append-nil (codes "]}\n")) in
     let all = pending_more _ _ _ _ (codes "]}\n") _ [] _ c.loop-index.invariant.pending last c.in_ok-extend_from_slice.ensures.items in
     on_err_weaker c.hand_over.result (pending_part _ _ _ _ _ _ all) c.hand_over.ensures.part
+
+pub returns-clause-quiet : goal.returns-clause-quiet
+returns-clause-quiet g c = on_ok_weaker c.hand_over.result (λ same. same ∙ c.loop-index.invariant.quiet) c.hand_over.ensures.quiet

@@ -25,3 +25,9 @@ returns-in_ok-insert-in-None-clause-ok c =
     one_set es _ c.in_ok-from_slice-in-None.field-0.items c.args.number u.1 others
     ∙ ap (λ w. map_of.insert (told es) w c.args.number) c.in_ok-from_slice-in-None.ensures.items
     ∙ ap (λ k. map_of.insert (told es) c.args.word.now k) none
+
+pub returns-in_err-from_slice-in-None-clause-known : goal.returns-in_err-from_slice-in-None-clause-known
+returns-in_err-from_slice-in-None-clause-known c = λ some. absurd (omega (arith, some, number_found c.args.table.now.entries c.args.word.now None c.in-None.ensures.value))
+
+pub returns-in_err-insert-in-None-clause-known : goal.returns-in_err-insert-in-None-clause-known
+returns-in_err-insert-in-None-clause-known c = λ some. absurd (omega (arith, some, number_found c.args.table.now.entries c.args.word.now None c.in-None.ensures.value))

@@ -1,5 +1,5 @@
-use Rattle.word_text.proofs.Cuts.{words_of_plan}
+use Rattle.word_text.proofs.Cuts.{plan_inside, words_of_plan}
 use Rattle.word_text.proofs.laws.plans_keep_words.Goals as goal
 
 pub returns : goal.returns
-returns c = words_of_plan
+returns c = record { inside = plan_inside; words = words_of_plan }

@@ -12,7 +12,7 @@ invariant-loop-worker g l = record {
   end : l.numbers.end ≡ length l.plan;
   within : l.numbers.next ≤ l.numbers.end;
   none_left : 0 < l.worker → l.numbers.next ≡ l.numbers.end;
-  run : HasRun l.plan l.texts (λ _. g.C.Clock.ticks l.clock) l.worker l.drawn.items (g.R.Rail.made l.seat) l.numbers.next;
+  run : HasRun l.plan l.texts (g.C.Clock.ticks l.clock) l.worker l.drawn.items (g.R.Rail.made l.seat) l.numbers.next;
   first : l.worker ≡ 0 → l.counts ≡ map_of.empty;
   counts : l.counts ≡ add_all map_of.empty (flat_map (words_at l.plan l.texts) (range_with_len 0 l.numbers.next));
   batches : flat_map (λ b. b.items) l.batches.items ≡ g.R.Rail.taken l.seat;

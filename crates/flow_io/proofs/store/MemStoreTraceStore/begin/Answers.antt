@@ -1,6 +1,6 @@
-use Rattle.std.proofs.Common.{◌≡◌, ◌≤◌, ◌+◌, [], ◌++◌, ap, ◌∙◌, subst, rules, arith, length, string_len, string_bytes}
+use Rattle.std.proofs.Common.{◌≤◌, ap, ◌∙◌, subst, rules, arith, length}
 use Rattle.std.specs.List.{AllByRecursion}
-use Rattle.flow_io.specs.Stored.{IsUnused, document_of}
+use Rattle.flow_io.specs.Stored.{IsUnused}
 use Rattle.flow_io.proofs.Begun.{begins, named}
 use Rattle.flow_io.proofs.Unused.{all_pop}
 use Rattle.flow_io.proofs.store.MemStoreTraceStore.begin.Goals as goal

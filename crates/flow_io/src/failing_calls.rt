@@ -1,4 +1,4 @@
-ghost use Rattle.std.specs.Prelude.{◌≡◌, ℕ, ◌≤◌, true};
+ghost use Rattle.std.specs.Prelude.{◌≡◌, ℕ, ◌≤◌, true, false};
 ghost use Rattle.flow_io.specs.Flow.{Rose};
 ghost use Rattle.flow_io.specs.Held.{unused, is_due, counted, after_call};
 
@@ -6,25 +6,25 @@ use std::marker::Model;
 
 /// Which calls fail, and how many have failed.
 #[derive(Drop)]
-pub struct Plan {
+pub struct FailingCalls {
     fails: Vec<u64>,
     calls: u64,
     faults: u64,
 }
 
-impl Model for Plan {
-    ghost use Rattle.flow_io.specs.Held.{Planned};
+impl Model for FailingCalls {
+    ghost use Rattle.flow_io.specs.Held.{CallFailures};
 
-    ghost Value = { Planned };
+    ghost Value = { CallFailures };
 
     ghost view = { λ a. record { fails = a.fails.items; calls = a.calls; faults = a.faults } };
 }
 
-impl Plan {
-    pub fn new(fails: Vec<u64>) -> Plan
+impl FailingCalls {
+    pub fn new(fails: Vec<u64>) -> FailingCalls
         ensures { result ≡ unused fails.items }
     {
-        Plan {
+        FailingCalls {
             fails,
             calls: 0,
             faults: 0,
@@ -40,9 +40,10 @@ impl Plan {
 
     /// Counts a call.
     pub fn count(&mut self, failed: bool)
-        ensures plan { self.new ≡ after_call self.old failed }
+        ensures failing { self.new ≡ after_call self.old failed }
         ensures later { self.old.faults ≤ self.new.faults }
         ensures rose { failed ≡ true → Rose self.old.faults self.new.faults }
+        ensures quiet { failed ≡ false → self.new.faults ≡ self.old.faults }
     {
         self.calls = self.calls.saturating_add(1);
         if failed {
