@@ -1,10 +1,11 @@
 #!/usr/bin/env bash
-# Times the word count against wc -w and a pipeline of tr, sort and uniq on two texts, and prints the ratios of the
+# Times the word count against wc -w and a pipeline of tr, sort and uniq on two texts, compares what they count, and prints the ratios of the
 # least times: of three runs each, and of twenty of the program on the first text. What the spans cost is the ratio to a run over the same text in few pieces.
 set -eu
 top=$(cd "$(dirname "$0")/.." && pwd)
 folder=$(mktemp -d)
 trap 'rm -rf "$folder"' EXIT
+trap 'exit 130' HUP INT TERM
 cd "$folder"
 
 # 48 MB with 159 different words, and 60 MB with about a million
@@ -15,6 +16,13 @@ awk 'BEGIN { srand(1); l = "abcdefghijklmnop"
         printf "%s%s", w, i % 10 == 9 ? "\n" : " " } }' >many.txt
 
 pipeline() { LC_ALL=C tr -s '[:space:]' '\n' <"$1" | LC_ALL=C sort | uniq -c; }
+
+# whether a count of the program has the words and numbers of wc -w and of the pipeline
+is_count() {
+    [ "$(sed -n '1s/^words \([0-9]*\) distinct .*/\1/p' counts)" = "$(wc -w <"$1")" ] &&
+        [ "$(sed -n '1s/^.* distinct //p' counts)" = "$(($(wc -l <counts) - 1))" ] &&
+        pipeline "$1" | sed 's/^ *//' | cmp -s - <(tail -n +2 counts)
+}
 
 # the least of so many times, in milliseconds
 least() {
@@ -31,8 +39,15 @@ least() {
     echo $((best > 0 ? best : 1))
 }
 
-"$top/bbq-profile" few.txt >/dev/null # builds it, if need be
 for text in few.txt many.txt; do
+    for options in "" "--workers 1 --piece 16777216"; do
+        # shellcheck disable=SC2086
+        "$top/bbq-profile" $options "$text" >counts
+        is_count "$text" || {
+            echo "count.sh: other counts of $text $options" >&2
+            exit 1
+        }
+    done
     runs=$([ "$text" = few.txt ] && echo 20 || echo 3)
     ours=$(least "$runs" "$top/crates/bbq_profile/out/bbq_profile" "$text")
     wc=$(least 3 wc -w "$text")

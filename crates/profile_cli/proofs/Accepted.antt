@@ -1,5 +1,5 @@
 -- What a closed queue had accepted, from what its seats did.
-use Rattle.std.proofs.Common.{◌≡◌, ℕ, ◌≤◌, List, [], ◌∷◌, ◌++◌, map, sym, subst, arith}
+use Rattle.std.proofs.Common.{◌≡◌, ℕ, ◌≤◌, List, [], ◌∷◌, ◌++◌, map, refl, ap, ◌∙◌, sym, subst, arith}
 use Rattle.std.specs.Prelude.{nat_eq, IsPermutation}
 use Rattle.std.specs.List.{All, AllByRecursion, IsDistinct}
 use Rattle.std.proofs.lemmas.List.Elements.{All-from_recursion, recursion_from_All}
@@ -10,10 +10,12 @@ use Rattle.rail.specs.Outcome.{IsAccepted, RetryOutcome}
 use Rattle.rail.proofs.Rising.{distinct_by_permutation, rising_accepted, same_by_permutation}
 use Rattle.rail.proofs.Whole.{taken_and_left}
 use Rattle.span_words.specs.declared.span.SpanEvent.{SpanEvent}
-use Rattle.span_words.specs.Span.{spelling}
+use Rattle.span_words.specs.Span.{event_of, spelling}
+use Rattle.span_words.proofs.Spellings.{event_of-spelling}
+use Rattle.span_recorder.specs.Events.{events_of}
 use Rattle.trace_json.specs.Trace.{HasFile}
 use Rattle.word_workers.specs.Trace.{IsSpanOfSome, NamesText}
-use Rattle.profile_cli.specs.Trace.{Spell}
+use Rattle.profile_cli.specs.Written.{Spell}
 
 module _ (made taken batches accepted done_taken left shown : List Placed) (a : IsAccepted made accepted) (b : IsPermutation batches taken) (t : IsPermutation taken done_taken) (o : RetryOutcome accepted done_taken left) (s : shown ≡ left) where
   -- all that is gathered is all that was accepted
@@ -49,5 +51,16 @@ files_accepted texts events made accepted list named perm same s =
     let there : All (λ (i : Placed). NamesText texts i.words) list = subst (All (λ (i : Placed). NamesText texts i.words)) (sym same) all in
     All-from_recursion (HasFile texts) events (files_named texts events list s (recursion_from_All (λ (i : Placed). NamesText texts i.words) list there))
 
-pub spell_accepted : (events : List SpanEvent) (list accepted : List Placed) → list ≡ accepted → Spell events list → Spell events accepted
-spell_accepted events list accepted same s = subst (Spell events) same s
+-- events that these entries spell are their spans
+spelled : (events : List SpanEvent) (items : List Placed) → Spell events items → events ≡ events_of items
+spelled [] [] s = refl
+spelled [] (i ∷ is) s = cc
+spelled (e ∷ es) [] s = cc
+spelled (e ∷ es) (i ∷ is) s =
+    let h : spelling e ≡ i.words = cc in let t : map spelling es ≡ map (λ (x : Placed). x.words) is = cc in
+    let first : e ≡ event_of i.words = sym (event_of-spelling e) ∙ ap event_of h in
+    let rest = spelled es is t in
+    λ k. first k ∷ rest k
+
+pub events_accepted : (events : List SpanEvent) (list accepted : List Placed) → list ≡ accepted → Spell events list → events ≡ events_of accepted
+events_accepted events list accepted same s = spelled events list s ∙ ap events_of same

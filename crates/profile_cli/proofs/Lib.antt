@@ -3,4 +3,6 @@ pub mod Accepted
 pub mod Held
 pub mod Planned
 pub mod UsageWords
-pub mod Complete
+pub mod Said
+pub mod Due
+pub mod Left

@@ -1,22 +1,18 @@
 -- A document that was begun and written to.
-use Rattle.std.proofs.Common.{◌≡◌, List, ℕ, [], Option, Some, None, IfSome, ap, ◌∙◌, inl, inr, subst}
-use Rattle.std.specs.Prelude.{Result, Err, OnErr}
-use Rattle.flow_io.specs.Flow.{Files, Beside, documents, gained}
-use Rattle.profile_cli.specs.Trace.{GainsDocument, KeepsDocuments}
+use Rattle.std.proofs.Common.{◌≡◌, ℕ, List, [], ◌∷◌, ◌++◌, length, take, refl, Option, Some, None, IfSome, sym, ap, ◌∙◌, inl, inr, subst}
+use Rattle.flow_io.specs.Flow.{Files, Beside, documents, gained, GainedPart}
+use Rattle.profile_cli.specs.Written.{GainsDocuments, GainsPart}
 
-pub stored : (old : Option Files) (mid new : Option (List ℕ)) (begun kept : Beside) (name text : List ℕ) → IfSome old (λ earlier. (mid ≡ Some []) × (begun ≡ Some (earlier, name))) → new ≡ gained mid text → kept ≡ begun → GainsDocument old (documents new kept) name text
+pub stored : (old : Option Files) (mid new : Option (List ℕ)) (begun kept : Beside) (name text : List ℕ) → IfSome old (λ earlier. (mid ≡ Some []) × (begun ≡ Some (earlier, name))) → new ≡ gained mid text → kept ≡ begun → GainsDocuments old (documents new kept) ((name, text) ∷ [])
 stored None mid new begun kept name text begins grew same = tt
 stored (Some earlier) mid new begun kept name text begins grew same =
     ap (λ t. documents t kept) (grew ∙ ap (λ m. gained m text) begins.0) ∙ ap (λ b. documents (Some text) b) (same ∙ begins.1)
 
--- what holds on an error holds at this one
-pub at_error : {T E P : Type 0} (r : Result T E) (e : E) → r ≡ Err e → OnErr r P → P
-at_error {P = P} r e is on = subst (λ x. OnErr x P) is on
+-- a shorter prefix of the text was written
+pub stored_part : (old : Option Files) (mid new : Option (List ℕ)) (begun kept : Beside) (name text : List ℕ) → IfSome old (λ earlier. (mid ≡ Some []) × (begun ≡ Some (earlier, name))) → GainedPart mid new text → kept ≡ begun → GainsPart old (documents new kept) ((name, text) ∷ [])
+stored_part old mid new begun kept name text begins part same =
+    ((name, take part.0 text) ∷ [], inr (inl (part.0, part.1, refl)), stored old mid new begun kept name (take part.0 text) begins part.2 same)
 
-pub keeps_same : (old new : Option Files) (name : List ℕ) → new ≡ old → KeepsDocuments old new name
-keeps_same None new name e = tt
-keeps_same (Some earlier) new name e = inl e
-
-pub keeps_gained : (old new : Option Files) (name text : List ℕ) → GainsDocument old new name text → KeepsDocuments old new name
-keeps_gained None new name text g = tt
-keeps_gained (Some earlier) new name text g = inr (text, g)
+-- nothing was begun
+pub stored_none : (old new : Option Files) (document : List ℕ × List ℕ) → new ≡ old → GainsPart old new (document ∷ [])
+stored_none old new document same = ([], inl refl, same)

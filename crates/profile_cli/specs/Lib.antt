@@ -1,6 +1,8 @@
-pub mod Closed
+pub mod Endings
+pub mod Input
 pub mod Messages
-pub mod Statuses
+pub mod Queue
+pub mod Run
 pub mod Texts
-pub mod Trace
 pub mod Usage
+pub mod Written

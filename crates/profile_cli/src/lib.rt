@@ -1,14 +1,15 @@
 //! The command: words are counted by workers that note their spans in a queue, and a trace of it is stored.
 #![tactic(auto)]
 
-mod command;
-mod finish;
+mod asked;
+mod ending;
+mod input;
 mod messages;
 mod options;
 mod plans;
 mod profiling;
+mod queue_run;
 mod rails;
-mod run;
 mod solo_rails;
 mod texts;
 mod writing;

@@ -1,35 +1,33 @@
-ghost use Rattle.std.specs.Prelude.{◌≡◌, ◌≤◌, ◌<◌, length, sum_by, IfOk, IfErr, IfSome, vec_len};
-ghost use Rattle.profile_cli.specs.Texts.{AreRead, StopsBy, bytes_of, input_limit, texts_of};
+ghost use Rattle.std.specs.Prelude.{None, ◌≡◌, ℕ, List, length, sum_by, IfOk, IfErr, MatchResult, ◌≤◌, ◌⊎◌};
+ghost use Rattle.flow_io.specs.Flow.{Rose};
+ghost use Rattle.profile_cli.specs.Input.{AreRead, IsDue, IsInput, StopsReading, input_of};
+ghost use Rattle.profile_cli.specs.Run.{Closes, SourceFaults};
+ghost use Rattle.profile_cli.specs.Texts.{bytes_of, input_limit};
 
+use crate::ending::Ending;
 use flow_io::{MOST_INPUT, MOST_TEXT, Reading, Source, read_text};
 use std::alloc::Global;
 use word_text::Text;
-
-/// Why the texts aren't all read, with the number of the text where it is one's. Where they have too many bytes together, those that were read.
-#[derive(Drop)]
-pub enum Stopped {
-    Unread(u64),
-    TooLarge(u64),
-    TooMuch(Vec<Text>),
-    Memory,
-}
 
 /// Reads the texts of all files in order.
 pub fn read_all<F: Source>(
     alloc: Global,
     files: &mut F,
     names: &[String],
-) -> Result<Vec<Text>, Stopped>
-    ensures later { F.faults files.old ≤ F.faults files.new }
+) -> Result<Vec<Text>, Ending>
     ensures files { F.files files.new ≡ F.files files.old }
-    ensures number { IfOk result (λ texts. vec_len texts ≡ length names.now) }
+    ensures quiet { IfOk result (λ _. F.faults files.new ≡ F.faults files.old) }
     ensures size { IfOk result (λ texts. sum_by length texts.items ≤ input_limit) }
-    ensures texts { IfOk result (λ texts. IfSome (F.files files.old)
-        (λ held. texts.items ≡ texts_of held (bytes_of names.now))) }
-    ensures read { IfOk result (λ texts. IfSome (F.files files.old)
-        (λ held. AreRead held (bytes_of names.now) (length names.now))) }
-    ensures stopped { IfErr result (StopsBy (F.files files.old) (bytes_of names.now)
-        (F.faults files.old) (F.faults files.new)) }
+    ensures read { IfOk result (λ texts.
+        let input = input_of (bytes_of names.now) (F.files files.old) texts.items in
+        IsInput input × AreRead input (length input.names)) }
+    ensures unrun { IfErr result (λ ending. Closes ending None) }
+    ensures faults { IfErr result (λ ending.
+        SourceFaults ending (F.faults files.old) (F.faults files.new)) }
+    ensures stopped { IfErr result (λ ending. (texts : List (List ℕ)) × (
+        let input = input_of (bytes_of names.now) (F.files files.old) texts in
+        IsInput input × ((piece : ℕ) → IsDue piece input ending
+        ⊎ StopsReading input (Rose (F.faults files.old) (F.faults files.new)) ending))) }
 {
     let mut texts = Vec::new(alloc);
     let mut total = 0;
@@ -37,16 +35,16 @@ pub fn read_all<F: Source>(
         let number = texts.len() as u64;
         let text = match read_text(alloc, files, name.as_str(), MOST_TEXT) {
             Reading::Whole(text) => text,
-            Reading::TooLarge(_) => return Err(Stopped::TooLarge(number)),
-            Reading::Unread => return Err(Stopped::Unread(number)),
-            Reading::Memory => return Err(Stopped::Memory),
+            Reading::TooLarge(_) => return Err(Ending::TooLarge(number)),
+            Reading::Unread => return Err(Ending::Unread(number)),
+            Reading::Memory => return Err(Ending::OutOfMemory),
         };
         total += text.len();
         let Ok(()) = texts.push(Text::from_bytes(text)) else {
-            return Err(Stopped::Memory);
+            return Err(Ending::OutOfMemory);
         };
         if total > MOST_INPUT {
-            return Err(Stopped::TooMuch(texts));
+            return Err(Ending::TooMuch);
         }
     }
     Ok(texts)

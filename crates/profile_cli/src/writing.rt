@@ -1,129 +1,99 @@
-ghost use Rattle.std.specs.Prelude.{◌≡◌, ℕ, ◌+◌, ◌<◌, ◌≤◌, ◌⊎◌, length, take, OnOk, IsErrOf};
+ghost use Rattle.std.specs.Prelude.{◌≡◌, ◌∷◌, [], ◌≤◌, ◌⊎◌, length, OnOk, OnErr, IsErrOf};
 ghost use Rattle.std.specs.List.{All};
-ghost use Rattle.flow_io.specs.Flow.{Rose, gained, GainedPart, documents};
-ghost use Rattle.trace_json.specs.Trace.{HasFile};
+ghost use Rattle.flow_io.specs.Flow.{Rose, documents};
+ghost use Rattle.trace_json.specs.Trace.{HasFile, trace_text};
 ghost use Rattle.word_text.specs.Counts.{counts_text_of};
 ghost use Rattle.profile_cli.specs.Texts.{bytes_of};
-ghost use Rattle.profile_cli.specs.Trace.{GainsDocument, KeepsDocuments, trace_of};
+ghost use Rattle.profile_cli.specs.Written.{GainsDocuments, GainsPart, OutFaults, StoreFaults, Writes, asks_of};
 
+use crate::ending::Ending;
 use flow_io::{Sink, TraceStore, write_all};
 use span_words::SpanEvent;
 use std::alloc::{AllocError, Global};
 use trace_json::{TraceError, write_trace};
 use word_text::{Counts, counts_text};
 
-/// Why the counts and the trace aren't both written.
-#[derive(Drop)]
-pub enum WriteError {
-    Counts,
-    Trace,
-    Memory,
+/// What is to be written: the counts, and the trace of these spans, of so many that were accepted,
+/// where the texts have these names.
+#[derive(Clone, Copy)]
+pub struct Results<'a> {
+    pub counts: &'a Counts,
+    pub trace: &'a str,
+    pub names: &'a [String],
+    pub events: &'a [SpanEvent],
+    pub accepted: u64,
 }
 
-/// Stores the trace of these spans, which are all that were accepted.
+/// Stores the trace under its name.
 fn store_trace<T: TraceStore>(
     alloc: Global,
-    name: &str,
-    names: &[String],
-    events: &[SpanEvent],
+    results: &Results<'_>,
     trace: &mut T,
 ) -> Result<(), TraceError>
-    requires { All (HasFile (length names.now)) events.now }
-    ensures later { T.faults trace.old ≤ T.faults trace.new }
-    ensures ok { OnOk result (GainsDocument
+    requires { All (HasFile (length results.now.names.now)) results.now.events.now }
+    ensures whole { OnOk result (GainsDocuments
         (documents (T.told trace.old) (T.beside trace.old))
         (documents (T.told trace.new) (T.beside trace.new))
-        name.now (trace_of (bytes_of names.now) events.now)) }
+        (asks_of results.now)) }
+    ensures part { OnErr result (GainsPart
+        (documents (T.told trace.old) (T.beside trace.old))
+        (documents (T.told trace.new) (T.beside trace.new))
+        (asks_of results.now)) }
     ensures cause { IsErrOf result TraceError.Fault
         → Rose (T.faults trace.old) (T.faults trace.new) }
-    ensures fault { IsErrOf result TraceError.Fault
-        → (documents (T.told trace.new) (T.beside trace.new)
-        ≡ documents (T.told trace.old) (T.beside trace.old))
-        ⊎ ((n : ℕ) × (n < length (trace_of (bytes_of names.now) events.now)) × GainsDocument
-        (documents (T.told trace.old) (T.beside trace.old))
-        (documents (T.told trace.new) (T.beside trace.new))
-        name.now (take n (trace_of (bytes_of names.now) events.now))) }
-    ensures memory { IsErrOf result TraceError.Memory → (n : ℕ) × GainsDocument
-        (documents (T.told trace.old) (T.beside trace.old))
-        (documents (T.told trace.new) (T.beside trace.new))
-        name.now (take n (trace_of (bytes_of names.now) events.now)) }
+    ensures quiet { OnOk result (T.faults trace.new ≡ T.faults trace.old) }
+    ensures sound { IsErrOf result TraceError.Memory
+        → T.faults trace.new ≡ T.faults trace.old }
 {
-    if !trace.begin(name) {
+    if !trace.begin(results.trace) {
         return Err(TraceError::Fault);
     }
-    write_trace(alloc, trace, events, names, events.len() as u64)
+    write_trace(
+        alloc,
+        trace,
+        results.events,
+        results.names,
+        results.accepted,
+    )
 }
 
-/// Writes the counts text, and then stores the trace of these spans, which are all that were accepted.
+/// Writes the counts text, and then stores the trace.
 pub fn write_results<O: Sink, T: TraceStore>(
     alloc: Global,
-    counts: &Counts,
-    name: &str,
-    names: &[String],
-    events: &[SpanEvent],
+    results: &Results<'_>,
     out: &mut O,
     trace: &mut T,
-) -> Result<(), WriteError>
+) -> Ending
     requires ready { O.ready out.old }
-    requires files { All (HasFile (length names.now)) events.now }
+    requires files { All (HasFile (length results.now.names.now)) results.now.events.now }
     ensures ready { O.ready out.new }
     ensures beside { O.beside out.new ≡ O.beside out.old }
-    ensures out_later { O.faults out.old ≤ O.faults out.new }
-
-    // What stands where both are written.
-    ensures counted { OnOk result
-        (O.told out.new ≡ gained (O.told out.old) (counts_text_of counts.now)) }
-    ensures traced { OnOk result (GainsDocument
-        (documents (T.told trace.old) (T.beside trace.old))
-        (documents (T.told trace.new) (T.beside trace.new))
-        name.now (trace_of (bytes_of names.now) events.now)) }
-
-    // What stands where the counts can't be written.
-    ensures unwritten { IsErrOf result WriteError.Counts
-        → Rose (O.faults out.old) (O.faults out.new) }
-    ensures part { IsErrOf result WriteError.Counts
-        → GainedPart (O.told out.old) (O.told out.new) (counts_text_of counts.now) }
-    ensures no_trace { IsErrOf result WriteError.Counts
-        → documents (T.told trace.new) (T.beside trace.new)
-        ≡ documents (T.told trace.old) (T.beside trace.old) }
-
-    // What stands where the trace can't be written.
-    ensures untraced { IsErrOf result WriteError.Trace
-        → Rose (T.faults trace.old) (T.faults trace.new) }
-    ensures whole { IsErrOf result WriteError.Trace
-        → O.told out.new ≡ gained (O.told out.old) (counts_text_of counts.now) }
-    ensures trace_part { IsErrOf result WriteError.Trace
-        → (documents (T.told trace.new) (T.beside trace.new)
-        ≡ documents (T.told trace.old) (T.beside trace.old))
-        ⊎ ((n : ℕ) × (n < length (trace_of (bytes_of names.now) events.now)) × GainsDocument
-        (documents (T.told trace.old) (T.beside trace.old))
-        (documents (T.told trace.new) (T.beside trace.new))
-        name.now (take n (trace_of (bytes_of names.now) events.now))) }
-
-    // What stands after want of memory.
-    ensures prefix { IsErrOf result WriteError.Memory
-        → (O.told out.new ≡ O.told out.old)
-        ⊎ (O.told out.new ≡ gained (O.told out.old) (counts_text_of counts.now)) }
-    ensures trace_prefix { IsErrOf result WriteError.Memory
-        → (documents (T.told trace.new) (T.beside trace.new)
-        ≡ documents (T.told trace.old) (T.beside trace.old))
-        ⊎ ((n : ℕ) × GainsDocument
-        (documents (T.told trace.old) (T.beside trace.old))
-        (documents (T.told trace.new) (T.beside trace.new))
-        name.now (take n (trace_of (bytes_of names.now) events.now))) }
-    ensures documents { KeepsDocuments
-        (documents (T.told trace.old) (T.beside trace.old))
-        (documents (T.told trace.new) (T.beside trace.new)) name.now }
+    ensures out { OutFaults result (O.faults out.old) (O.faults out.new) }
+    ensures store { StoreFaults result (T.faults trace.old) (T.faults trace.new) }
+    ensures writes { Writes (counts_text_of results.now.counts.now) (asks_of results.now)
+        (record {
+          out = O.told out.old;
+          out_faults = O.faults out.old;
+          documents = documents (T.told trace.old) (T.beside trace.old);
+          store_faults = T.faults trace.old;
+        })
+        (record {
+          out = O.told out.new;
+          out_faults = O.faults out.new;
+          documents = documents (T.told trace.new) (T.beside trace.new);
+          store_faults = T.faults trace.new;
+        })
+        result }
 {
-    let Ok(text) = counts_text(alloc, counts) else {
-        return Err(WriteError::Memory);
+    let Ok(text) = counts_text(alloc, results.counts) else {
+        return Ending::OutOfMemory;
     };
     if !write_all(out, text.bytes()) {
-        return Err(WriteError::Counts);
+        return Ending::CountsUnwritten;
     }
-    match store_trace(alloc, name, names, events, trace) {
-        Ok(()) => Ok(()),
-        Err(TraceError::Fault) => Err(WriteError::Trace),
-        Err(TraceError::Memory) => Err(WriteError::Memory),
+    match store_trace(alloc, results, trace) {
+        Ok(()) => Ending::Done,
+        Err(TraceError::Fault) => Ending::TraceUnwritten,
+        Err(TraceError::Memory) => Ending::OutOfMemory,
     }
 }

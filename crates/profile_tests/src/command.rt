@@ -204,6 +204,12 @@ const CASES: &[Case] = &[
         out: b"words 6 distinct 4\n2 be\n1 not\n1 or\n2 to\n",
         ..DONE
     },
+    // With no options there are one piece and four workers.
+    Case {
+        bytes: b"to be or not to be\n",
+        out: b"words 6 distinct 4\n2 be\n1 not\n1 or\n2 to\n",
+        ..DONE
+    },
     Case {
         bytes: &[97, 255, 0, 98, 10],
         out: b"words 1 distinct 1\n1 a\xff\x00b\n",
@@ -235,6 +241,36 @@ const CASES: &[Case] = &[
             fails: &[2],
             ..AMPLE
         },
+        message: b"bbq-profile: cannot read ab.txt\n",
+        ..REFUSED
+    },
+    // Of two FILEs the second read of the first fails, the start of the second, and its second read.
+    Case {
+        words: &["ab.txt", "ab.txt"],
+        world: World {
+            fails: &[2],
+            ..AMPLE
+        },
+        message: b"bbq-profile: cannot read ab.txt\n",
+        ..REFUSED
+    },
+    Case {
+        words: &["ab.txt", "ab.txt"],
+        world: World {
+            fails: &[4],
+            ..AMPLE
+        },
+        detail: 1,
+        message: b"bbq-profile: cannot read ab.txt\n",
+        ..REFUSED
+    },
+    Case {
+        words: &["ab.txt", "ab.txt"],
+        world: World {
+            fails: &[6],
+            ..AMPLE
+        },
+        detail: 1,
         message: b"bbq-profile: cannot read ab.txt\n",
         ..REFUSED
     },

@@ -1,13 +1,25 @@
-use Rattle.std.proofs.Common.{inr, rules}
-use Rattle.profile_cli.proofs.Stored.{at_error, stored}
+use Rattle.std.proofs.Common.{◌≡◌, ◌∙◌, ap, length, rules}
+use Rattle.std.proofs.lemmas.Result.{IfErr-weaker, IfOk-weaker}
+use Rattle.flow_io.specs.Flow.{documents}
+use Rattle.profile_cli.proofs.Stored.{stored, stored_none, stored_part}
 use Rattle.profile_cli.proofs.writing.store_trace.Goals as goal
 
-pub returns-clause-fault : goal.returns-clause-fault
-returns-clause-fault g c = λ fault.
-    let part = at_error c.write_trace.result _ fault c.write_trace.ensures.part in
-    inr (part.0, part.1, stored _ _ _ _ _ _ _ (c.begin.ensures.begun (search rules)) part.2 c.write_trace.ensures.beside)
+pub returns-then-not-begin-clause-part : goal.returns-then-not-begin-clause-part
+returns-then-not-begin-clause-part g c =
+    let told = c.begin.ensures.told c.if-not-begin.true in let beside = c.begin.ensures.beside c.if-not-begin.true in
+    stored_none _ _ _ (λ i. documents (told i) (beside i))
 
-pub returns-clause-memory : goal.returns-clause-memory
-returns-clause-memory g c = λ memory.
-    let part = at_error c.write_trace.result _ memory c.write_trace.ensures.part in
-    (part.0, stored _ _ _ _ _ _ _ (c.begin.ensures.begun (search rules)) part.2 c.write_trace.ensures.beside)
+pub returns-clause-whole : goal.returns-clause-whole
+returns-clause-whole g c =
+    IfOk-weaker c.write_trace.result _ _ (λ _ grew. stored _ _ _ _ _ _ _ (c.begin.ensures.begun c.if-not-begin.false) grew c.write_trace.ensures.beside) c.write_trace.ensures.ok
+
+pub returns-clause-part : goal.returns-clause-part
+returns-clause-part g c =
+    IfErr-weaker c.write_trace.result _ _ (λ _ part. stored_part _ _ _ _ _ _ _ (c.begin.ensures.begun c.if-not-begin.false) part c.write_trace.ensures.beside) c.write_trace.ensures.part
+
+pub returns-clause-quiet : goal.returns-clause-quiet
+returns-clause-quiet g c =
+    IfOk-weaker c.write_trace.result _ _ (λ _ same. same ∙ c.begin.ensures.quiet c.if-not-begin.false) c.write_trace.ensures.quiet
+
+pub returns-clause-sound : goal.returns-clause-sound
+returns-clause-sound g c = λ memory. c.write_trace.ensures.sound memory ∙ c.begin.ensures.quiet c.if-not-begin.false

@@ -91,3 +91,6 @@ returns-clause-part g c =
     let last = ap (λ l. l ++ codes "}\n") (spans_text-end (nat_lt 0 i) names events i c.loop-index-test.false) ∙ sym (append-nil (codes "]}\n")) in
     let all = pending_more _ _ _ _ (codes "]}\n") _ [] _ c.loop-index.invariant.pending last c.in_ok-extend_from_slice.ensures.items in
     on_err_weaker c.hand_over.result (pending_part _ _ _ _ _ _ all) c.hand_over.ensures.part
+
+pub returns-clause-quiet : goal.returns-clause-quiet
+returns-clause-quiet g c = on_ok_weaker c.hand_over.result (λ same. same ∙ c.loop-index.invariant.quiet) c.hand_over.ensures.quiet

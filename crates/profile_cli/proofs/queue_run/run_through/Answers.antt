@@ -1,10 +1,25 @@
-use Rattle.std.proofs.Common.{List, map, sym, subst, ◌∙◌}
+use Rattle.std.proofs.Common.{◌≡◌, List, map, length, ◌<◌, ◌^◌, refl, sym, subst, ap, ◌∙◌, arith}
 use Rattle.std.specs.Prelude.{flat_map, IsPermutation}
 use Rattle.std.proofs.lemmas.List.Sorted.{IsPermutation-refl}
 use Rattle.rail.specs.Batch.{Gathered}
+use Rattle.word_text.specs.declared.plan.Piece.{Piece}
+use Rattle.word_workers.specs.Spans.{AllLieIn, plan_words}
+use Rattle.word_workers.specs.Trace.{RunTrace}
+use Rattle.word_text.proofs.Cuts.{plan_inside}
+use Rattle.word_workers.proofs.Plans.{plan_words-le}
 use Rattle.word_workers.proofs.Traces.{trace_of_run}
-use Rattle.profile_cli.proofs.Accepted.{files_accepted, gathered_accepted, gathered_apart, spans_below, spell_accepted}
-use Rattle.profile_cli.proofs.run.run_queue.Goals as goal
+use Rattle.profile_cli.proofs.Accepted.{events_accepted, files_accepted, gathered_accepted, gathered_apart, spans_below}
+use Rattle.profile_cli.proofs.Planned.{counts_of_plan}
+use Rattle.profile_cli.proofs.queue_run.run_through.Goals as goal
+
+pub run_all-requires-clause-inside : goal.run_all-requires-clause-inside
+run_all-requires-clause-inside g c κs within =
+    subst (AllLieIn c.args.texts.now) (sym c.requires.plan) (plan_inside c.args.texts.now c.args.options.now.piece c.requires.limits.some_piece)
+
+pub run_all-requires-clause-words : goal.run_all-requires-clause-words
+run_all-requires-clause-words g c κs within =
+    let few = plan_words-le c.args.texts.now c.args.options.now.piece c.requires.limits.some_piece in
+    subst (λ (plan : List Piece). length (plan_words plan c.args.texts.now) < 2 ^ 63) (sym c.requires.plan) (omega (arith, few, c.requires.size))
 
 pub close-requires-clause-all : goal.close-requires-clause-all
 close-requires-clause-all g c =
@@ -22,17 +37,29 @@ decoded-requires g c =
     let done = c.in-Ok.ensures in
     let batches = subst (λ (bs : List Gathered). IsPermutation (flat_map (λ (b : Gathered). b.items) bs) (flat_map g.Q.Rail.taken c.in_ok-work.work.seats.items)) (sym c.as_slice.ensures.value) c.in_ok-work.ensures.batches in
     let same = gathered_accepted _ _ _ _ _ _ _ done.accepted batches done.taken (done.retry c.requires.keeps) c.left.ensures _ c.in_ok-list.ensures.order c.in_ok-list.ensures.all in
-    spans_below c.args.workers _ _ _ c.requires.workers.1 c.in_ok-work.ensures.makes.all_spans done.accepted.all_made same
+    spans_below c.args.options.now.workers _ _ _ c.requires.limits.most_workers c.in_ok-work.ensures.makes.all_spans done.accepted.all_made same
 
-pub returns-clause-trace : goal.returns-clause-trace
-returns-clause-trace g c = trace_of_run _ _ _ _ _ _ _ c.in_ok-work.ensures.makes c.in-Ok.ensures.accepted
+pub returns-clause-counts : goal.returns-clause-counts
+returns-clause-counts g c =
+    counts_of_plan c.args.plan.now c.args.texts.now c.args.options.now.piece _ c.requires.limits.some_piece c.requires.plan c.in_ok-work.ensures.counts
+
+pub returns-clause-queue : goal.returns-clause-queue
+returns-clause-queue g c =
+    let run = trace_of_run _ _ _ _ _ _ _ c.in_ok-work.ensures.makes c.in-Ok.ensures.accepted in
+    record {
+      mode = refl;
+      shape = c.in-Ok.ensures.shape ∙ c.requires.shape;
+      order = c.in-Ok.ensures.accepted.no_gap;
+      outcome = c.in-Ok.ensures.retry c.requires.keeps;
+      run = subst (λ (plan : List Piece). RunTrace (g.Q.Rail.done_accepted c.in-Ok.done) c.args.options.now.workers plan c.args.texts.now (g.C.Clock.ticks c.args.clock.now)) c.requires.plan run;
+    }
 
 pub returns-clause-events : goal.returns-clause-events
 returns-clause-events g c =
     let done = c.in-Ok.ensures in
     let batches = subst (λ (bs : List Gathered). IsPermutation (flat_map (λ (b : Gathered). b.items) bs) (flat_map g.Q.Rail.taken c.in_ok-work.work.seats.items)) (sym c.as_slice.ensures.value) c.in_ok-work.ensures.batches in
     let same = gathered_accepted _ _ _ _ _ _ _ done.accepted batches done.taken (done.retry c.requires.keeps) c.left.ensures _ c.in_ok-list.ensures.order c.in_ok-list.ensures.all in
-    spell_accepted _ _ _ same c.in_ok-events.ensures
+    events_accepted _ _ _ same c.in_ok-events.ensures
 
 pub returns-clause-files : goal.returns-clause-files
 returns-clause-files g c =
