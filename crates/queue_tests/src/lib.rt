@@ -8,6 +8,8 @@ mod claims;
 #[cfg(test)]
 mod cursors;
 #[cfg(test)]
+mod drop_schedules;
+#[cfg(test)]
 mod gathering;
 #[cfg(test)]
 mod list_queue;
