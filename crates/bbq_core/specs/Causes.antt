@@ -8,8 +8,11 @@ use Rattle.rail.specs.declared.answer.Why.TheVariants as why
 use Rattle.bbq_core.specs.declared.phase.Phase.{Phase}
 use Rattle.bbq_core.specs.declared.phase.Phase.TheVariants.{SeeA, AddA, SeeX, SeeR, Take}
 use Rattle.bbq_core.specs.declared.take_phase.TakePhase.TheVariants.{SeeRes, SeeCom, SeeAll, Reserve, NextCom}
-use Rattle.bbq_core.specs.declared.event.Event.{Event}
-use Rattle.bbq_core.specs.Moments.{CallStep, EmptyAt, FullAt, moment}
+use Rattle.machine.specs.declared.event.Event.{Event}
+use Rattle.bbq_core.specs.Moments.{EmptyAt, FullAt}
+use Rattle.machine.specs.Moments.{moment}
+use Rattle.bbq_core.specs.Table.{table}
+use Rattle.bbq_core.specs.Types.{CallStep}
 
 -- a step of this kind found this cursor
 pub record FoundBy (Is : Phase → Type 0) (c : Cursor) (steps : List CallStep) : Type 0 where
@@ -40,7 +43,7 @@ pub record FullShown (g : Grid) (events : List Event) (steps : List CallStep) (h
   pub in_order : filled.number < load.number
   pub last_but_one : suc load.number ≡ last.number
   pub is_last : suc last.number ≡ length steps
-  pub was_full : FullAt g (moment g events load.step.position) head consumed
+  pub was_full : FullAt g (moment table g events load.step.position) head consumed
 
 -- the last step p of a take that answers Empty, where it found this cursor after the reserved cursor: the committed cursor is the same,
 -- and this is its place; or the block is spent and the next one is not opened, and this is that one's first place
@@ -57,7 +60,7 @@ pub record EmptyShown (g : Grid) (events : List Event) (steps : List CallStep) (
   pub last : FoundBy (EmptyBy g place reserved committed) committed steps
   pub in_order : first.number < last.number
   pub is_last : suc last.number ≡ length steps
-  pub was_empty : EmptyAt g (moment g events last.step.position) place
+  pub was_empty : EmptyAt g (moment table g events last.step.position) place
 
 -- the two cursors of a Busy answer, in the order in which they were found
 abbrev pub first_found : Why → Cursor

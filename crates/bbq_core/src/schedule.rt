@@ -1,22 +1,25 @@
 ghost use Rattle.std.specs.Prelude.{◌≡◌, ◌<◌, IfOk, length};
 ghost use Rattle.std.specs.List.{AllByRecursion};
-ghost use Rattle.rail.specs.Rail.{most_puts};
-ghost use Rattle.bbq_core.specs.Machine.{Suits, run, start_state};
+ghost use Rattle.cursor_word.specs.Cursor.{most_puts};
+ghost use Rattle.machine.specs.Steps.{Suits, run, start_state};
+ghost use Rattle.bbq_core.specs.Table.{table};
 
-use crate::event::Event;
-use crate::state::State;
+use crate::phase::Phase;
 use cursor_word::Shape;
+use machine::Event;
 use std::alloc::{AllocError, Global};
+
+/// The words and the seats of a queue that refuses when full.
+pub type State = machine::State<Phase>;
+
+/// What is known of a seat.
+pub type View = machine::View<Phase>;
 
 /// The state after a schedule: its events, done in order from the start.
 pub fn run(alloc: Global, shape: Shape, events: &[Event]) -> Result<State, AllocError>
-    requires suits { AllByRecursion (Suits shape) events.now }
-    requires few { length events.now < most_puts }
-    ensures state { IfOk result (λ state. state ≡ record { shape = shape; state = run shape (start_state shape) events.now }) }
+    requires suits { AllByRecursion (Suits table shape) events.now }
+    requires few { length events.now < most_puts shape }
+    ensures state { IfOk result (λ state. state ≡ record { shape = shape; state = run table shape (start_state _ shape) events.now }) }
 {
-    let mut state = State::new(alloc, shape)?;
-    for event in events {
-        state.step(event)?;
-    }
-    Ok(state)
+    machine::run::<Phase>(alloc, shape, events)
 }

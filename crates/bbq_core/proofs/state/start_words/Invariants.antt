@@ -1,8 +1,0 @@
-use Rattle.std.proofs.Common.{◌≡◌}
-use Rattle.std.specs.Prelude.{map}
-use Rattle.std.specs.List.{range_with_len}
-use Rattle.cursor_word.specs.Layout.{start_at}
-use Rattle.bbq_core.proofs.state.start_words.Given as goal
-
-abbrev pub invariant-loop-index : goal.invariant-loop-index
-invariant-loop-index l = l.words.items ≡ map (start_at l.shape) (range_with_len 0 l.index)
