@@ -1,18 +1,16 @@
 -- The calls of a schedule, and those that are done alone.
-use Rattle.std.specs.Prelude.{◌≡◌, ◌≢◌, ℕ, suc, ◌<◌, ◌≤◌, List, Option, Some, None, slice_get}
+use Rattle.std.specs.Prelude.{◌≡◌, ℕ, List, Option, Some}
 use Rattle.cursor_word.specs.Shape.{Grid}
 use Rattle.rail.specs.declared.answer.Answer.{Answer}
 use Rattle.rail.specs.declared.answer.Answer.TheVariants as answer
 use Rattle.machine.specs.declared.event.Event.{Event}
 use Rattle.machine.specs.declared.event.Start.{Start}
 use Rattle.machine.specs.declared.event.Start.TheVariants as start
-use Rattle.bbq_core.specs.declared.phase.Phase.{Phase}
-use Rattle.bbq_core.specs.Types.{View}
 use Rattle.bbq_core.specs.Counts.{taken_total}
+use Rattle.machine.specs.Invariant.{made_total}
 use Rattle.machine.specs.Moments.{answer_of, moment}
 use Rattle.bbq_core.specs.Table.{table}
 use Rattle.rail.specs.Sequential.{RetryPut, retry_take}
-use Rattle.machine.specs.Invariant.{made_total}
 
 -- a call that is begun so is answered as one thread is, where n entries are accepted and t taken
 abbrev pub AnswersAsOne : Grid → ℕ → ℕ → Start → Option Answer → Type 0
@@ -23,4 +21,3 @@ AnswersAsOne g n t begun a = ⊥
 -- the call of a seat from moment n to moment m is answered as one thread is, by what is made and taken at moment n
 abbrev pub AnsweredAsOne : Grid → List Event → ℕ → ℕ → ℕ → Start → Type 0
 AnsweredAsOne g events seat n m begun = AnswersAsOne g (made_total (moment table g events n).views) (taken_total (moment table g events n).views) begun (answer_of table g events m seat)
-

@@ -19,7 +19,10 @@ pub type View = machine::View<Phase>;
 pub fn run(alloc: Global, shape: Shape, events: &[Event]) -> Result<State, AllocError>
     requires suits { AllByRecursion (Suits table shape) events.now }
     requires few { length events.now < most_puts shape }
-    ensures state { IfOk result (λ state. state ≡ record { shape = shape; state = run table shape (start_state _ shape) events.now }) }
+    ensures state { IfOk result (λ s. s ≡ record {
+      shape = shape;
+      state = run table shape (start_state _ shape) events.now;
+    }) }
 {
     machine::run::<Phase>(alloc, shape, events)
 }

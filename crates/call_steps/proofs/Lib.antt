@@ -5,4 +5,5 @@ pub mod Last
 mod LeftItems
 pub mod Values
 pub mod Recalls
+pub mod Room
 pub mod Promised

@@ -3,7 +3,7 @@ use Rattle.std.proofs.Common.{◌≡◌, ◌≢◌, ℕ, ◌<◌, List, [], ◌�
 use Rattle.std.specs.Prelude.{Option, Some, None}
 use Rattle.std.proofs.lemmas.List.{map-append}
 use Rattle.cursor_word.specs.Shape.{Grid}
-use Rattle.rail.specs.Rail.{most_puts}
+use Rattle.cursor_word.specs.Cursor.{most_puts}
 use Rattle.rail.specs.declared.entry.Placed.{Placed}
 use Rattle.rail.specs.declared.answer.Answer.{Answer}
 use Rattle.rail.specs.declared.answer.Answer.TheVariants as answer
@@ -49,7 +49,7 @@ noted_value (AddOne i) n = refl
 noted_value (Max i x) n = refl
 
 may_on : (g : Grid) (v w : View) (s : Start) → w.made ≡ v.made → MayDo g v s → MayDo g w s
-may_on g v w (start.Put e) made may = (may.0, subst (λ (l : List Placed). length l < most_puts) (sym made) may.1)
+may_on g v w (start.Put e) made may = (may.0, subst (λ (l : List Placed). length l < most_puts g) (sym made) may.1)
 may_on g v w start.Take made may = tt
 may_on g v w start.Go made may = may
 
@@ -221,7 +221,7 @@ module _ {V : Type 0} (grid_of : V → Grid) (view_of : V → View) (Sits : V �
         same_next = ap (λ (t : Sitting V). t.id) logs ∙ i.same
 
     pub put_begins : (g : Grid) (entry : List ℕ) (s : Start) (old : Sitting V) (p : Phase) → p ≡ first_put → s ≡ start.Put entry → grid_of old.view ≡ g → Sits old.view → (view_of old.view).phase ≡ None → length entry ≡ g.width
-        → length (view_of old.view).made < most_puts → IsPutAt grid_of view_of Sits begins moves_to Tells g entry s old old p
+        → length (view_of old.view).made < most_puts g → IsPutAt grid_of view_of Sits begins moves_to Tells g entry s old old p
     put_begins g entry s old p is picks grid sits rest wide room = let v = begins_view old.view (start.Put entry) sits rest in
         subst (IsPutAt grid_of view_of Sits begins moves_to Tells g entry s old old) (sym is) (subst (λ (k : Start). IsPutAt grid_of view_of Sits begins moves_to Tells g entry k old old first_put) (sym picks)
         record {

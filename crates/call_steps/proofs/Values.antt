@@ -84,12 +84,12 @@ takes_make_none (Next (Take q)) h = refl
 takes_make_none (Next p) h = absurd h
 takes_make_none (Done a) h = refl
 
-pub room_seen : (g : Grid) (v : View) (p : Phase) (n : ℕ) → v.phase ≡ Some p → HasRoom v → HasRoom (seen g v p n)
+pub room_seen : (g : Grid) (v : View) (p : Phase) (n : ℕ) → v.phase ≡ Some p → HasRoom g v → HasRoom g (seen g v p n)
 room_seen g v (Commit at) n is room = let e = ap may_make is in omega (arith, length-append v.made (placed (place_at g at) v.entry ∷ []))
 room_seen g v (Take q) n is room = let e = ap may_make is in let z = takes_make_none (after_take g q n) (takes_on g q n) in omega arith
 room_seen g v p n is room = let e = ap may_make is in let o = may_make_one (phase_after (after g p n)) in omega arith
 
-pub room_begun : (g : Grid) (v : View) (ph : Option Phase) (s : Start) → v.phase ≡ ph → MayDo g v s → HasRoom v → HasRoom (begun v ph s)
+pub room_begun : (g : Grid) (v : View) (ph : Option Phase) (s : Start) → v.phase ≡ ph → MayDo g v s → HasRoom g v → HasRoom g (begun v ph s)
 room_begun g v (Some p) s is may room = room
 room_begun g v None (start.Put entry) is may room = let m = may.1 in omega arith
 room_begun g v None start.Take is may room = omega arith

@@ -1,7 +1,7 @@
 -- What a rule of shared words says of the machine, so that calls can do the machine's steps under it.
 use Rattle.std.specs.Prelude.{◌≡◌, ℕ, ◌+◌, ◌<◌, ◌≤◌, List, length, Option, Some, None}
 use Rattle.cursor_word.specs.Shape.{Grid}
-use Rattle.rail.specs.Rail.{most_puts}
+use Rattle.cursor_word.specs.Cursor.{most_puts}
 use Rattle.step_log.specs.declared.step.Taken.{Taken}
 use Rattle.step_log.specs.Log.{Keeps}
 use Rattle.bbq_core.specs.declared.event.Start.{Start}
@@ -27,7 +27,7 @@ pub record MayFind (g : Grid) (p : Phase) (n : ℕ) : Type 0 where
 
 -- a seat with this view may do this call
 abbrev pub MayDo : Grid → View → Start → Type 0
-MayDo g v (start.Put entry) = (length entry ≡ g.width) × (length v.made < most_puts)
+MayDo g v (start.Put entry) = (length entry ≡ g.width) × (length v.made < most_puts g)
 MayDo g v start.Take = Unit {0}
 MayDo g v start.Go = ⊥
 
@@ -38,8 +38,8 @@ may_make (Some (phase.Take q)) = 0
 may_make (Some p) = 1
 
 -- a seat makes no more entries than a seat may
-abbrev pub HasRoom : View → Type 0
-HasRoom v = length v.made + may_make v.phase ≤ most_puts
+abbrev pub HasRoom : Grid → View → Type 0
+HasRoom g v = length v.made + may_make v.phase ≤ most_puts g
 
 module _ {V : Type 0} (view_of : V → View) (begins : V → Start → V) where
   -- the view in a call: a seat at rest begins it

@@ -1,8 +1,8 @@
 //! The calls of a seat, step by step.
 ghost use Rattle.std.specs.Prelude.{◌≡◌, ℕ, ◌<◌, ◌≤◌, ◌++◌, List, [], length, None};
 ghost use Rattle.cursor_word.specs.Layout.{word_count};
+ghost use Rattle.cursor_word.specs.Cursor.{most_puts};
 ghost use Rattle.rail.specs.declared.answer.Answer.TheVariants as answer;
-ghost use Rattle.rail.specs.Rail.{most_puts};
 ghost use Rattle.step_log.specs.declared.step.Taken.{Taken};
 ghost use Rattle.bbq_core.specs.declared.event.Start.TheVariants as start;
 ghost use Rattle.bbq_core.specs.declared.op.After.TheVariants.{Next};
@@ -34,7 +34,7 @@ pub fn run_put<U: MachineRule, E: Call>(
     requires sits { U.Sits seat.old.view }
     requires rest { (U.view_of seat.old.view).phase ≡ None }
     requires width { length entry.now ≡ shape.now.width }
-    requires room { length (U.view_of seat.old.view).made < most_puts }
+    requires room { length (U.view_of seat.old.view).made < most_puts shape.now }
     requires call { E.start ≡ start.Put entry.now }
     ensures same { seat.new.id ≡ seat.old.id }
     ensures shape { U.grid_of seat.new.view ≡ shape.now }

@@ -11,10 +11,11 @@ use step_log::Stopped;
 /// Gives the batch the items of so many places from `from` on, with the words that stand there.
 pub fn read_left(stopped: &Stopped, shape: &Shape, from: u64, count: u64, left: &mut Batch)
     requires words { length stopped.now ≡ word_count shape.now }
-    requires places { from + count < place_span }
+    requires places { from + count ≤ place_span shape.now }
     requires room { count ≤ left.old.spare }
     ensures items { left.new.items ≡ left.old.items ++ left_in shape.now stopped.now from (from + count) }
 {
+    let _size = shape.size();
     for place in from..from + count {
         left.push(Placed {
             place,
@@ -25,11 +26,11 @@ pub fn read_left(stopped: &Stopped, shape: &Shape, from: u64, count: u64, left: 
 
 fn read_entry(stopped: &Stopped, shape: &Shape, place: u64) -> Entry
     requires words { length stopped.now ≡ word_count shape.now }
-    requires place { place < place_span }
+    requires place { place ≤ place_span shape.now }
     ensures { result ≡ entry_at shape.now stopped.now place }
 {
-    let at = Cursor::at_place(shape, place);
     let width = shape.width();
+    let at = Cursor::at_place(shape, place);
     let mut words = [0; 8];
     for word in 0..width {
         words[word as usize] = stopped.word(entry_word(shape, at, word));

@@ -1,9 +1,13 @@
 use Rattle.std.proofs.Common.{◌∙◌, arith, ◌≡◌, ℕ, subst}
 use Rattle.std.proofs.lemmas.List.{length-set}
+use Rattle.cursor_word.proofs.Places.{block_of_place_to}
 use mathlib.Core.Option.{some}
 use lib.ListN.{get_elem?}
 use Rattle.call_steps.proofs.LeftItems.{entry_done, entry_more}
 use Rattle.call_steps.proofs.left.read_entry.Goals as goal
+
+pub at_place-at-requires : goal.at_place-at-requires
+at_place-at-requires c = omega (arith, block_of_place_to c.args.shape.now c.args.place c.width-width.ensures.limits c.requires.place)
 
 pub loop-word-preserved : goal.loop-word-preserved
 loop-word-preserved c =
