@@ -1,3 +1,16 @@
 pub mod PutSteps
 pub mod Frames
 pub mod Puts
+pub mod TakeFacts
+pub mod Loads
+pub mod TakeLoads
+pub mod TakeSteps
+pub mod TakeRaises
+pub mod Reserves
+pub mod Consumes
+pub mod TakeOpens
+pub mod Attends
+pub mod Steps
+pub mod Starts
+pub mod Ready
+pub mod Keeping
