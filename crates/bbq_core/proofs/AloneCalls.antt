@@ -1,10 +1,10 @@
 -- A call that is done alone, from its beginning to its answer.
-use Rattle.std.proofs.Common.{◌≡◌, ◌≢◌, ℕ, ◌+◌, ◌<◌, ◌≤◌, ◌⊎◌, List, length, refl, sym, ap, ◌∙◌, inl, arith}
+use Rattle.std.proofs.Common.{◌≡◌, ℕ, ◌<◌, ◌≤◌, List, length, refl, sym, ◌∙◌, inl, arith}
 use Rattle.std.specs.Prelude.{Some, None, slice_get, slice_set}
 use Rattle.std.specs.List.{sum_by}
 use Rattle.cursor_word.specs.Shape.{Grid, IsWithinLimits}
 use Rattle.cursor_word.specs.Cursor.{most_block, place_span}
-use Rattle.machine.specs.Invariant.{made_count, made_total}
+use Rattle.machine.specs.Invariant.{made_count}
 use Rattle.machine.specs.Steps.{begun}
 use Rattle.machine.specs.declared.event.Start.TheVariants as start
 use Rattle.machine.proofs.Lists.{get_set_other, sum_set}
@@ -18,7 +18,7 @@ use Rattle.bbq_core.specs.PutSteps.{first_put}
 use Rattle.bbq_core.specs.TakeSteps.{first_take}
 use Rattle.bbq_core.specs.Table.{table}
 use Rattle.bbq_core.specs.Stage.{stage_of}
-use Rattle.bbq_core.specs.Counts.{taken_count, taken_total}
+use Rattle.bbq_core.specs.Counts.{taken_count}
 use Rattle.bbq_core.specs.Sound.{IsSoundAt}
 use Rattle.bbq_core.specs.Alone.{IsAlone, IsStill, LoneKnows}
 use Rattle.bbq_core.proofs.Alone.{lone_AddA, lone_Commit, lone_HeadP, lone_OpenA, lone_OpenM, lone_RaiseP, lone_SeeA, lone_SeeR, lone_SeeX, lone_Write}

@@ -1,5 +1,5 @@
 -- At the start all seats are at rest, and nothing is accepted.
-use Rattle.std.proofs.Common.{◌≡◌, ℕ, sym, ap, arith}
+use Rattle.std.proofs.Common.{sym, ap, arith}
 use Rattle.std.proofs.lemmas.List.Folds.{sum_by-replicate}
 use Rattle.cursor_word.specs.Shape.{Grid, IsWithinLimits}
 use Rattle.machine.specs.Steps.{resting, start_state}

@@ -1,8 +1,7 @@
 -- Where a cursor or a head that takes move lags, some take is at work: each step keeps this.
-use Rattle.std.proofs.Common.{◌≡◌, ℕ, ◌+◌, ◌*◌, ◌/◌, ◌%◌, ◌<◌, ◌≤◌, ◌⊎◌, max, List, length, refl, sym, ap, ◌∙◌, subst, inl, inr, ⊎_elim, arith}
+use Rattle.std.proofs.Common.{◌≡◌, ℕ, ◌+◌, ◌*◌, ◌/◌, ◌<◌, ◌≤◌, ◌⊎◌, List, refl, sym, ap, ◌∙◌, subst, inl, inr, ⊎_elim, arith}
 use Rattle.std.specs.Prelude.{Option, Some, slice_get, slice_set, slice_index}
-use Rattle.std.proofs.lemmas.Bool.{cases_eq}
-use Rattle.std.proofs.lemmas.List.{get_or-set_same, set-get_or}
+use Rattle.std.proofs.lemmas.List.{set-get_or}
 use Rattle.cursor_word.specs.Shape.{Grid, IsWithinLimits}
 use Rattle.cursor_word.specs.Cursor.{offset_span}
 use Rattle.cursor_word.specs.declared.cursor.Cursor.{Cursor}
@@ -13,17 +12,16 @@ use Rattle.put_side.specs.Manned as put_work
 use Rattle.put_side.specs.Stages as stages
 use Rattle.put_side.specs.PutTable.{stage_in}
 use Rattle.put_side.proofs.Attends.{IsIdle}
-use Rattle.put_side.proofs.Commits.{one_apart, one_met}
+use Rattle.put_side.proofs.Commits.{one_met}
 use Rattle.put_side.proofs.Owns.{manned_own}
 use Rattle.bbq_core.specs.declared.phase.Phase.{Phase}
 use Rattle.bbq_core.specs.declared.phase.Phase.TheVariants.{Take}
 use Rattle.bbq_core.specs.declared.take_phase.TakePhase.{TakePhase}
-use Rattle.bbq_core.specs.declared.take_phase.TakePhase.TheVariants.{HeadC, OpenX, OpenR, RaiseC}
+use Rattle.bbq_core.specs.declared.take_phase.TakePhase.TheVariants.{OpenR}
 use Rattle.bbq_core.specs.Types.{View}
 use Rattle.bbq_core.specs.Stage.{stage, stage_of}
 use Rattle.bbq_core.specs.Cursors.{TakeCursors, TakeWords, consumed_word, reserved_word, take_cursors}
-use Rattle.bbq_core.specs.Sound.{IsManned, IsSoundAt, in_all, opens_reserved, raises_consumer, scene}
-use Rattle.bbq_core.proofs.Frames.{IsLater}
+use Rattle.bbq_core.specs.Sound.{IsManned, in_all, opens_reserved, raises_consumer}
 use Rattle.bbq_core.proofs.Loads.{same_words}
 use Rattle.bbq_core.proofs.TakeSteps.{IsTakeWord, keeps_put_words}
 

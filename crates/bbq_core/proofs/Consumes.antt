@@ -1,11 +1,11 @@
 -- Words are read, and the entry is consumed.
-use Rattle.std.proofs.Common.{◌≡◌, ℕ, ◌+◌, ◌-◌, ◌*◌, ◌/◌, ◌%◌, ◌^◌, ◌<◌, ◌≤◌, ◌⊎◌, List, [], ◌∷◌, ◌++◌, length, refl, sym, ap, ◌∙◌, subst, inl, inr, ⊎_elim, arith}
+use Rattle.std.proofs.Common.{◌≡◌, ℕ, ◌+◌, ◌-◌, ◌*◌, ◌/◌, ◌%◌, ◌^◌, ◌<◌, ◌≤◌, List, [], ◌∷◌, ◌++◌, length, refl, sym, ap, ◌∙◌, subst, inl, ⊎_elim, arith}
 use Rattle.std.specs.Prelude.{Some, slice_get, slice_set, slice_index, take}
 use Rattle.std.specs.List.{sum_by}
 use Rattle.std.proofs.lemmas.List.{set-get_or, get_or-set_other, append-nil, map-append, take_all, take_more}
 use Rattle.std.proofs.lemmas.Bool.{cases_eq, cases_lt}
 use Rattle.std.proofs.lemmas.Bool.Decides.{nat_tests}
-use Rattle.std.proofs.lemmas.Nat.{div-mul-add, mod-mul-add, mod_below}
+use Rattle.std.proofs.lemmas.Nat.{div-mul-add, mod-mul-add}
 use Rattle.cursor_word.specs.Shape.{Grid, IsWithinLimits}
 use Rattle.cursor_word.specs.Cursor.{cursor_of, most_block, offset_span, place_at}
 use Rattle.cursor_word.specs.Layout.{entry_index}
@@ -14,19 +14,16 @@ use Rattle.cursor_word.proofs.Blocks.{same_near}
 use Rattle.rail.specs.declared.entry.Placed.{Placed}
 use Rattle.rail.specs.Items.{IsRising, placed, places}
 use Rattle.machine.specs.declared.op.After.TheVariants.{Next}
-use Rattle.machine.specs.Steps.{phase_after, view_after, words_after}
+use Rattle.machine.specs.Steps.{view_after, words_after}
 use Rattle.machine.proofs.Lists.{sum_set}
-use Rattle.put_side.specs.Cursors.{Front, allocated_word, place, put_cursors}
+use Rattle.put_side.specs.Cursors.{Front, allocated_word, place}
 use Rattle.put_side.specs.Counts.{makes, one_at, sum_below, times}
-use Rattle.put_side.specs.Places.{IsCurrent}
 use Rattle.put_side.specs.Entries.{HasWords, IsMade, IsPresent}
 use Rattle.put_side.specs.Stages as stages
 use Rattle.put_side.specs.PutTable.{stage_in}
 use Rattle.put_side.proofs.Sums.{get_push, sum_same, times_push, upto_same}
-use Rattle.put_side.proofs.Facts.{physical}
-use Rattle.put_side.proofs.Frames.{Leaves}
 use Rattle.put_side.proofs.Items.{made_counts}
-use Rattle.put_side.proofs.Draws.{HasOneMore, one_more_at, one_more_le}
+use Rattle.put_side.proofs.Draws.{HasOneMore, one_more_at}
 use Rattle.put_side.proofs.Commits.{bumped, one_apart, one_met}
 use Rattle.put_side.proofs.Made.{made_same}
 use Rattle.put_side.proofs.Owns.{keeps_own}
@@ -34,7 +31,7 @@ use Rattle.put_side.proofs.Stores.{made_block}
 use Rattle.bbq_core.specs.declared.phase.Phase.TheVariants.{Take}
 use Rattle.bbq_core.specs.declared.take_phase.TakePhase.{TakePhase}
 use Rattle.bbq_core.specs.declared.take_phase.TakePhase.TheVariants.{Read, Consume}
-use Rattle.bbq_core.specs.Types.{After, View}
+use Rattle.bbq_core.specs.Types.{View}
 use Rattle.bbq_core.specs.Table.{table}
 use Rattle.bbq_core.specs.Stage.{stage, stage_of}
 use Rattle.bbq_core.specs.Cursors.{TakeCursors, TakeWords, consumed_word, take_cursors}

@@ -1,17 +1,16 @@
 -- What a seat remembers lasts, since words and made lists only grow; and what stays where a step reserves and consumes nothing.
-use Rattle.std.proofs.Common.{◌≡◌, ℕ, ◌+◌, ◌*◌, ◌/◌, ◌%◌, ◌<◌, ◌≤◌, ◌≢◌, ◌⊎◌, List, [], length, refl, sym, ap, ◌∙◌, subst, inl, inr, ⊎_elim, arith}
-use Rattle.std.specs.Prelude.{Option, Some, None, slice_get, slice_set, slice_index}
+use Rattle.std.proofs.Common.{◌≡◌, ℕ, ◌+◌, ◌%◌, ◌≤◌, List, [], length, sym, ap, ◌∙◌, subst, inl, inr, ⊎_elim, arith}
+use Rattle.std.specs.Prelude.{Option, Some, slice_get, slice_set, slice_index}
 use Rattle.std.specs.List.{sum_by}
 use Rattle.cursor_word.specs.Shape.{Grid}
-use Rattle.cursor_word.specs.Cursor.{offset_span, place_at}
+use Rattle.cursor_word.specs.Cursor.{offset_span}
 use Rattle.cursor_word.specs.declared.cursor.Cursor.{Cursor}
 use Rattle.rail.specs.declared.entry.Placed.{Placed}
 use Rattle.rail.specs.Items.{IsRising, places}
-use Rattle.machine.proofs.Lists.{get_set, sum_set}
-use Rattle.put_side.specs.Cursors.{Front, committed_word, place}
-use Rattle.put_side.specs.Counts.{makes, times}
+use Rattle.machine.proofs.Lists.{get_set}
+use Rattle.put_side.specs.Cursors.{Front, place}
+use Rattle.put_side.specs.Counts.{times}
 use Rattle.put_side.specs.Places.{IsCurrent}
-use Rattle.put_side.specs.Entries.{IsMade}
 use Rattle.put_side.specs.PutSide.{PutSide}
 use Rattle.put_side.proofs.Sums.{sum_same, upto_same}
 use Rattle.put_side.proofs.Made.{KeepsMade}
@@ -23,7 +22,7 @@ use Rattle.bbq_core.specs.Types.{View}
 use Rattle.bbq_core.specs.Stage.{stage_of}
 use Rattle.bbq_core.specs.Cursors.{TakeCursors, TakeWords, consumed_word, reserved_word, take_cursors}
 use Rattle.bbq_core.specs.Counts.{TakeCounts, fetch_count, fetched, fetches, reading_in, takes}
-use Rattle.bbq_core.specs.Sound.{IsAhead, IsPassed, IsReadOf, IsReserved, IsSoundAt, Knows, MadeTo, Scene, TakeFits, TakeKnows, TakeTurn, scene}
+use Rattle.bbq_core.specs.Sound.{IsPassed, IsReserved, IsSoundAt, Knows, Scene, TakeFits, TakeKnows, TakeTurn, scene}
 
 -- a later scene: cursors only grow, and so does what is made
 pub record IsLater (s s' : Scene) : Type 0 where

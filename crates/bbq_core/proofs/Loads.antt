@@ -1,14 +1,12 @@
 -- Steps that change no word: of a put that looks at the older block, and of a take.
-use Rattle.std.proofs.Common.{◌≡◌, ℕ, ◌+◌, ◌*◌, ◌/◌, ◌%◌, ◌<◌, ◌≤◌, ◌≢◌, ◌⊎◌, List, [], ◌∷◌, ◌++◌, Bool, true, false, length, refl, sym, ap, ◌∙◌, subst, inl, inr, ⊎_elim, arith}
-use Rattle.std.specs.Prelude.{Option, Some, None, slice_get, slice_set, slice_index, if◌then◌else◌, nat_lt, ◌==◌, ◌&&◌}
-use Rattle.std.specs.List.{sum_by}
+use Rattle.std.proofs.Common.{◌≡◌, ℕ, ◌+◌, ◌*◌, ◌/◌, ◌%◌, ◌<◌, ◌≤◌, ◌≢◌, List, [], ◌∷◌, ◌++◌, Bool, true, false, refl, sym, ap, ◌∙◌, subst, inl, ⊎_elim, arith}
+use Rattle.std.specs.Prelude.{Some, slice_get, slice_set, slice_index, if◌then◌else◌, nat_lt, ◌==◌, ◌&&◌}
 use Rattle.std.proofs.lemmas.Bool.{cases_lt}
 use Rattle.std.proofs.lemmas.Bool.Decides.{eqb_tells}
 use Rattle.std.proofs.lemmas.List.{set-get_or}
 use Rattle.cursor_word.specs.Shape.{Grid, IsWithinLimits}
 use Rattle.cursor_word.specs.Cursor.{offset_span, packed, unpacked}
 use Rattle.cursor_word.specs.declared.cursor.Cursor.{Cursor}
-use Rattle.cursor_word.proofs.Blocks.{latest, latest_is}
 use Rattle.rail.specs.declared.entry.Placed.{Placed}
 use Rattle.rail.specs.declared.answer.Answer.TheVariants as answer
 use Rattle.rail.specs.declared.answer.Put.TheVariants as put
@@ -17,32 +15,30 @@ use Rattle.rail.specs.Items.{places}
 use Rattle.machine.specs.declared.op.After.TheVariants.{Next, Done}
 use Rattle.machine.specs.Steps.{answer_after, made_after, phase_after, taken_after, view_after, words_after}
 use Rattle.machine.proofs.Lists.{one_le_sum}
-use Rattle.put_side.specs.Cursors.{Front, committed_word, place, put_cursors}
-use Rattle.put_side.specs.Counts.{makes, sum_below, times}
+use Rattle.put_side.specs.Cursors.{Front, place, put_cursors}
+use Rattle.put_side.specs.Counts.{times}
 use Rattle.put_side.specs.Stages as stages
 use Rattle.put_side.specs.Stages.{PutStage}
 use Rattle.put_side.specs.Places.{IsFilled}
 use Rattle.put_side.specs.PutTable.{stage_after, stage_in}
-use Rattle.put_side.proofs.Sums.{by_test, by_test_le, none_from, one_to, upto_all, upto_cut, upto_from, upto_le}
-use Rattle.put_side.proofs.Facts.{IsPhysical, all_below, allocated_to, filled_opened, found_open, physical, repacked}
+use Rattle.put_side.proofs.Sums.{by_test, by_test_le, none_from}
+use Rattle.put_side.proofs.Facts.{all_below, allocated_to, filled_opened, physical, repacked}
 use Rattle.put_side.proofs.Frames.{IsNext, Leaves, makes_le}
 use Rattle.put_side.proofs.Loads as put_loads
-use Rattle.put_side.proofs.Made.{KeepsMade, made_same}
+use Rattle.put_side.proofs.Made.{made_same}
 use Rattle.put_side.proofs.Owns.{KeepsPutWords, keeps_own}
 use Rattle.bbq_core.specs.declared.phase.Phase.{Phase}
 use Rattle.bbq_core.specs.declared.phase.Phase.TheVariants.{SeeX, SeeR, OpenM, Take}
 use Rattle.bbq_core.specs.declared.take_phase.TakePhase.{TakePhase}
-use Rattle.bbq_core.specs.declared.take_phase.TakePhase.TheVariants.{HeadC, SeeRes, SeeCom, SeeAll, Reserve, NextCom, OpenX}
 use Rattle.bbq_core.specs.Types.{After, View}
-use Rattle.bbq_core.specs.PutSteps.{after, consumed_or_not, full_or_busy, older_consumed}
-use Rattle.bbq_core.specs.TakeSteps.{after_take, is_same, passed}
+use Rattle.bbq_core.specs.PutSteps.{consumed_or_not, full_or_busy, older_consumed}
+use Rattle.bbq_core.specs.TakeSteps.{is_same}
 use Rattle.bbq_core.specs.Table.{table}
 use Rattle.bbq_core.specs.Stage.{stage, stage_of}
-use Rattle.bbq_core.specs.Cursors.{consumed_word, reserved_word, take_cursors}
-use Rattle.bbq_core.specs.Counts.{claims, fetched, held, reading, reading_in}
-use Rattle.bbq_core.specs.Sound.{IsPassed, IsReserved, IsSoundAt, Knows, TakeKnows, scene}
+use Rattle.bbq_core.specs.Counts.{claims, reading, reading_in}
+use Rattle.bbq_core.specs.Sound.{IsSoundAt, Knows, TakeKnows, scene}
 use Rattle.bbq_core.proofs.Frames.{IsLater, knows_later, quiet}
-use Rattle.bbq_core.proofs.TakeFacts.{found_R, made_once, opened_spent, reserved_made, reserved_to}
+use Rattle.bbq_core.proofs.TakeFacts.{opened_spent}
 
 -- by what a test for equal numbers tells
 pub by_equal : (a b : ℕ) (P : Bool → Type 0) → (a ≡ b → P true) → (a ≢ b → P false) → P (a == b)

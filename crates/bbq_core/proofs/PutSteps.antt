@@ -7,7 +7,7 @@ use Rattle.cursor_word.specs.declared.cursor.Cursor.{Cursor}
 use Rattle.rail.specs.declared.entry.Placed.{Placed}
 use Rattle.rail.specs.declared.answer.Answer.TheVariants as answer
 use Rattle.rail.specs.declared.answer.Put.TheVariants as put
-use Rattle.machine.specs.declared.op.After.TheVariants.{Next, Done}
+use Rattle.machine.specs.declared.op.After.TheVariants.{Done}
 use Rattle.machine.specs.Steps.{made_after}
 use Rattle.put_side.specs.Stages as stages
 use Rattle.put_side.specs.Stages.{PutStage, fills, put_after, put_want}

@@ -1,10 +1,10 @@
 -- The shared steps of a put keep the invariant.
-use Rattle.std.proofs.Common.{◌≡◌, ℕ, ◌+◌, ◌-◌, ◌*◌, ◌/◌, ◌%◌, ◌<◌, ◌≤◌, ◌⊎◌, List, [], ◌++◌, Bool, true, false, refl, sym, ap, ◌∙◌, subst, inl, inr, ⊎_elim, arith}
-use Rattle.std.specs.Prelude.{Option, Some, None, slice_get, slice_set, slice_index, if◌then◌else◌, nat_lt, ◌==◌}
+use Rattle.std.proofs.Common.{◌≡◌, ℕ, ◌+◌, ◌-◌, ◌%◌, ◌<◌, ◌≤◌, ◌⊎◌, List, [], ◌++◌, Bool, true, false, refl, sym, ap, ◌∙◌, subst, ⊎_elim, arith}
+use Rattle.std.specs.Prelude.{Some, slice_get, slice_set, if◌then◌else◌, nat_lt, ◌==◌}
 use Rattle.std.specs.List.{sum_by}
 use Rattle.std.proofs.lemmas.Bool.{cases_lt}
 use Rattle.cursor_word.specs.Shape.{Grid, IsWithinLimits}
-use Rattle.cursor_word.specs.Cursor.{most_block, offset_span, place_at, unpacked}
+use Rattle.cursor_word.specs.Cursor.{most_block, offset_span}
 use Rattle.cursor_word.specs.declared.cursor.Cursor.{Cursor}
 use Rattle.cursor_word.proofs.Blocks.{shifted}
 use Rattle.rail.specs.declared.entry.Placed.{Placed}
@@ -12,11 +12,10 @@ use Rattle.rail.specs.declared.answer.Answer.TheVariants as answer
 use Rattle.rail.specs.Items.{places}
 use Rattle.machine.specs.declared.op.After.TheVariants.{Next, Done}
 use Rattle.machine.specs.Steps.{finds, phase_after, taken_after, view_after, words_after}
-use Rattle.put_side.specs.Cursors.{Front, committed_word, place, put_cursors}
-use Rattle.put_side.specs.Counts.{makes, sum_below}
+use Rattle.put_side.specs.Cursors.{Front, place, put_cursors}
+use Rattle.put_side.specs.Counts.{makes}
 use Rattle.put_side.specs.Stages as stages
 use Rattle.put_side.specs.PutTable.{IsShared, MayOpen}
-use Rattle.put_side.specs.Manned as put_work
 use Rattle.put_side.proofs.Sums.{upto_le, upto_more}
 use Rattle.put_side.proofs.Facts.{IsPhysical, physical}
 use Rattle.put_side.proofs.Commits.{made_once}
@@ -31,7 +30,7 @@ use Rattle.bbq_core.specs.PutSteps.{after, older_consumed}
 use Rattle.bbq_core.specs.Table.{table}
 use Rattle.bbq_core.specs.Stage.{stage, stage_of}
 use Rattle.bbq_core.specs.Cursors.{TakeCursors, TakeWords, consumed_word, take_cursors}
-use Rattle.bbq_core.specs.Counts.{fetched, reading, takes}
+use Rattle.bbq_core.specs.Counts.{reading, takes}
 use Rattle.bbq_core.specs.Sound.{IsSoundAt, Knows, Scene, scene}
 use Rattle.bbq_core.proofs.PutSteps.{puts}
 use Rattle.bbq_core.proofs.Frames.{IsLater, quiet, take_cursors_are}

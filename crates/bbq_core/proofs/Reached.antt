@@ -1,6 +1,5 @@
 -- What holds at each moment of each schedule.
-use Rattle.std.proofs.Common.{◌≡◌, ℕ, ◌<◌, List, length}
-use Rattle.std.specs.Prelude.{Some, slice_get}
+use Rattle.std.proofs.Common.{ℕ, ◌<◌, List, length}
 use Rattle.std.specs.List.{AllByRecursion}
 use Rattle.cursor_word.specs.Cursor.{most_puts}
 use Rattle.cursor_word.specs.Shape.{Grid, IsWithinLimits}
@@ -9,7 +8,7 @@ use Rattle.machine.specs.Steps.{Suits}
 use Rattle.machine.specs.Moments.{moment}
 use Rattle.machine.proofs.Runs.{moment_holds}
 use Rattle.put_side.proofs.Sums.{rising_front}
-use Rattle.bbq_core.specs.Types.{MachineState, View}
+use Rattle.bbq_core.specs.Types.{MachineState}
 use Rattle.bbq_core.specs.Table.{table}
 use Rattle.bbq_core.specs.Counts.{held, reading}
 use Rattle.bbq_core.specs.Laws.{MadeRises, PlacesAreDense, TakenIsMade, TakenOnce, TakenRises}

@@ -1,6 +1,6 @@
 -- What the invariant says of a seat that is about to step: its phase is in range, and so is what the step finds.
-use Rattle.std.proofs.Common.{◌≡◌, ℕ, ◌+◌, ◌/◌, ◌%◌, ◌<◌, ◌≤◌, List, length, subst, ap, inl, inr, ⊎_elim, arith}
-use Rattle.std.specs.Prelude.{Some, slice_get, slice_index, if◌then◌else◌, nat_le, nat_lt, ◌==◌}
+use Rattle.std.proofs.Common.{◌≡◌, ℕ, ◌+◌, ◌/◌, ◌%◌, ◌<◌, ◌≤◌, List, subst, ap, inl, inr, arith}
+use Rattle.std.specs.Prelude.{Some, slice_get, nat_le, nat_lt, ◌==◌}
 use Rattle.cursor_word.specs.Shape.{Grid, IsWithinLimits}
 use Rattle.cursor_word.specs.Cursor.{most_block, offset_span, packed, place_at, place_span, unpacked}
 use Rattle.cursor_word.specs.declared.cursor.Cursor.{Cursor}
@@ -8,7 +8,6 @@ use Rattle.rail.specs.Items.{placed}
 use Rattle.machine.specs.Invariant.{CanStep, IsRead, made_total}
 use Rattle.machine.specs.Steps.{finds}
 use Rattle.put_side.specs.Cursors.{Front, put_cursors}
-use Rattle.put_side.specs.Entries.{IsMade}
 use Rattle.put_side.specs.Places.{IsCurrent, IsFilled, IsTurn, PutKnows}
 use Rattle.put_side.specs.PutTable.{stage_in}
 use Rattle.put_side.proofs.Facts.{filled_opened, physical}

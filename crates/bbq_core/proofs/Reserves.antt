@@ -1,5 +1,5 @@
 -- A place is reserved, or was reserved by another take.
-use Rattle.std.proofs.Common.{◌≡◌, ℕ, ◌+◌, ◌*◌, ◌/◌, ◌%◌, ◌<◌, ◌≤◌, ◌≢◌, ◌⊎◌, max, List, [], ◌∷◌, ◌++◌, length, refl, sym, ap, ◌∙◌, subst, inl, inr, ⊎_elim, arith}
+use Rattle.std.proofs.Common.{◌≡◌, ℕ, ◌+◌, ◌*◌, ◌/◌, ◌%◌, ◌<◌, ◌≤◌, ◌≢◌, max, List, [], ◌∷◌, ◌++◌, length, refl, sym, ap, ◌∙◌, subst, inl, ⊎_elim, arith}
 use Rattle.std.specs.Prelude.{Some, slice_get, slice_set, slice_index}
 use Rattle.std.specs.List.{sum_by}
 use Rattle.std.proofs.lemmas.List.{length-append, get_or-set_same, get_or-set_other, append-nil}
@@ -18,10 +18,9 @@ use Rattle.machine.specs.declared.op.After.TheVariants.{Next, Done}
 use Rattle.machine.specs.Steps.{view_after, words_after}
 use Rattle.machine.proofs.Lists.{one_le_sum, sum_set}
 use Rattle.put_side.specs.Cursors.{Front, place}
-use Rattle.put_side.specs.Counts.{makes, one_at, times}
+use Rattle.put_side.specs.Counts.{one_at, times}
 use Rattle.put_side.proofs.Sums.{none_from, rising_push, sum_same, times_push, upto_same}
 use Rattle.put_side.proofs.Facts.{physical}
-use Rattle.put_side.proofs.Facts as facts
 use Rattle.put_side.proofs.Items.{made_there}
 use Rattle.put_side.proofs.Draws.{below_more}
 use Rattle.bbq_core.specs.declared.phase.Phase.TheVariants.{Take}

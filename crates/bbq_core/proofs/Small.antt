@@ -1,10 +1,8 @@
 -- No cursor word overflows.
-use Rattle.std.proofs.Common.{◌≡◌, ℕ, ◌+◌, ◌/◌, ◌%◌, ◌<◌, ◌≤◌, List, arith}
-use Rattle.std.specs.Prelude.{slice_index}
+use Rattle.std.proofs.Common.{ℕ, ◌≤◌, List, arith}
 use Rattle.cursor_word.specs.Shape.{Grid, IsWithinLimits}
-use Rattle.cursor_word.specs.Cursor.{block_span, most_block, offset_span, place_span}
+use Rattle.cursor_word.specs.Cursor.{place_span}
 use Rattle.machine.specs.Invariant.{made_total}
-use Rattle.put_side.specs.Cursors.{allocated_word, committed_word}
 use Rattle.put_side.proofs.Draws.{offset_small}
 use Rattle.put_side.proofs.Facts.{allocated_below, committed_below, physical}
 use Rattle.bbq_core.specs.Types.{View}

@@ -1,21 +1,19 @@
 -- Calls that begin keep the invariant, and it holds at the start.
-use Rattle.std.proofs.Common.{◌≡◌, ℕ, ◌+◌, ◌-◌, ◌*◌, ◌/◌, ◌%◌, ◌<◌, ◌≤◌, ◌⊎◌, List, [], ◌++◌, length, replicate, refl, sym, ap, ◌∙◌, subst, inl, inr, ⊎_elim, arith}
-use Rattle.std.specs.Prelude.{Option, Some, None, slice_get, slice_set, slice_index}
+use Rattle.std.proofs.Common.{◌≡◌, ℕ, ◌+◌, ◌-◌, ◌*◌, List, [], ◌++◌, length, replicate, refl, sym, ap, ◌∙◌, subst, inl, ⊎_elim, arith}
+use Rattle.std.specs.Prelude.{Some, None, slice_get, slice_set, slice_index}
 use Rattle.std.specs.List.{sum_by}
 use Rattle.std.proofs.lemmas.Bool.{cases_lt}
-use Rattle.std.proofs.lemmas.List.{length-map, length-replicate}
 use Rattle.std.proofs.lemmas.List.Folds.{sum_by-replicate}
 use Rattle.std.proofs.Math.Nat.{mod_self, mod-eq_of_lt}
 use Rattle.cursor_word.specs.Shape.{Grid, IsWithinLimits}
-use Rattle.cursor_word.specs.Cursor.{cursor, offset_span}
 use Rattle.rail.specs.declared.entry.Placed.{Placed}
 use Rattle.rail.specs.Items.{places}
 use Rattle.machine.specs.Steps.{IsWide, begun, resting, start_words}
 use Rattle.machine.specs.declared.event.Start.{Start}
 use Rattle.machine.specs.declared.event.Start.TheVariants as start
 use Rattle.machine.proofs.Lists.{get_replicate, set_again}
-use Rattle.put_side.specs.Cursors.{Front, place, put_cursors}
-use Rattle.put_side.specs.Counts.{makes, one_below}
+use Rattle.put_side.specs.Cursors.{Front, place}
+use Rattle.put_side.specs.Counts.{one_below}
 use Rattle.put_side.specs.PutSide.{PutSide}
 use Rattle.put_side.specs.Stages as stages
 use Rattle.put_side.specs.PutTable.{stage_in}
@@ -24,17 +22,16 @@ use Rattle.put_side.proofs.Begins.{begins_away, begins_put, start_front, start_m
 use Rattle.put_side.proofs.Made.{made_same}
 use Rattle.put_side.proofs.Owns.{manned_own}
 use Rattle.bbq_core.specs.declared.phase.Phase.{Phase}
-use Rattle.bbq_core.specs.declared.phase.Phase.TheVariants.{HeadP, Take}
+use Rattle.bbq_core.specs.declared.phase.Phase.TheVariants.{Take}
 use Rattle.bbq_core.specs.declared.take_phase.TakePhase.{TakePhase}
-use Rattle.bbq_core.specs.declared.take_phase.TakePhase.TheVariants.{HeadC}
 use Rattle.bbq_core.specs.Types.{View}
 use Rattle.bbq_core.specs.Table.{MayBegin, table}
 use Rattle.bbq_core.specs.Stage.{stage, stage_of}
 use Rattle.bbq_core.specs.Cursors.{TakeWords, consumed_word, take_cursors}
-use Rattle.bbq_core.specs.Counts.{TakeCounts, fetch_count, fetched, fetches, reading, reading_in, takes}
-use Rattle.bbq_core.specs.Sound.{IsManned, IsSound, IsSoundAt, Knows, TakeFits, in_all, opens_reserved, raises_consumer, scene}
-use Rattle.bbq_core.proofs.Frames.{IsLater, quiet}
-use Rattle.bbq_core.proofs.Attends.{IsTakeManned, both_parts, stays_take, take_part}
+use Rattle.bbq_core.specs.Counts.{TakeCounts, fetch_count, fetches, reading, reading_in, takes}
+use Rattle.bbq_core.specs.Sound.{IsManned, IsSound, IsSoundAt, Knows, TakeFits, opens_reserved, raises_consumer, scene}
+use Rattle.bbq_core.proofs.Frames.{quiet}
+use Rattle.bbq_core.proofs.Attends.{both_parts, stays_take, take_part}
 use Rattle.bbq_core.proofs.Loads.{same_words}
 
 module _ (g : Grid) (front back : Front) (ws : List ℕ) (vs : List View) (id : ℕ) (v : View) (at : slice_get vs id ≡ Some v) (rests : v.phase ≡ None) where

@@ -1,6 +1,6 @@
 -- Each step keeps the invariant: one law for the shared steps of a put, and one for each kind of the queue's own.
-use Rattle.std.proofs.Common.{◌≡◌, ℕ, ◌+◌, ◌*◌, ◌/◌, ◌%◌, ◌^◌, ◌<◌, ◌≤◌, ◌⊎◌, max, List, length, refl, sym, ap, ◌∙◌, subst, inl, inr, ⊎_elim, arith}
-use Rattle.std.specs.Prelude.{Option, Some, slice_get, slice_set, slice_index}
+use Rattle.std.proofs.Common.{◌≡◌, ℕ, ◌+◌, ◌*◌, ◌/◌, ◌%◌, ◌^◌, ◌<◌, ◌≤◌, ◌⊎◌, max, List, length, refl, sym, ap, subst, inl, inr, ⊎_elim, arith}
+use Rattle.std.specs.Prelude.{Some, slice_get, slice_set, slice_index}
 use Rattle.std.proofs.lemmas.Bool.{cases_eq}
 use Rattle.std.proofs.lemmas.List.{get_or-set_same}
 use Rattle.cursor_word.specs.Shape.{Grid, IsWithinLimits}
@@ -9,14 +9,13 @@ use Rattle.cursor_word.specs.Layout.{entry_index}
 use Rattle.cursor_word.specs.declared.cursor.Cursor.{Cursor}
 use Rattle.machine.specs.Steps.{view_after, words_after}
 use Rattle.machine.proofs.Lists.{get_set_same}
-use Rattle.put_side.specs.Cursors.{Front, put_cursors}
+use Rattle.put_side.specs.Cursors.{Front}
 use Rattle.put_side.specs.PutTable.{IsShared}
 use Rattle.put_side.specs.Counts.{one_at}
 use Rattle.put_side.proofs.Facts.{physical}
 use Rattle.put_side.proofs.Attends.{IsIdle}
 use Rattle.put_side.proofs.Commits.{one_apart}
 use Rattle.put_side.proofs.Keeps.{OpensNext}
-use Rattle.put_side.proofs.Draws.{one_more_le}
 use Rattle.bbq_core.specs.declared.phase.Phase.{Phase}
 use Rattle.bbq_core.specs.declared.phase.Phase.TheVariants.{HeadP, SeeA, AddA, Write, Commit, SeeX, SeeR, OpenM, OpenA, RaiseP, Take}
 use Rattle.bbq_core.specs.declared.take_phase.TakePhase.{TakePhase}
@@ -24,9 +23,8 @@ use Rattle.bbq_core.specs.declared.take_phase.TakePhase.TheVariants.{HeadC, SeeR
 use Rattle.bbq_core.specs.Types.{View}
 use Rattle.bbq_core.specs.Table.{table}
 use Rattle.bbq_core.specs.Stage.{stage}
-use Rattle.bbq_core.specs.Cursors.{TakeWords, consumed_word, reserved_word, take_cursors}
-use Rattle.bbq_core.specs.Sound.{IsManned, IsSoundAt, Knows, opens_reserved, raises_consumer, scene}
-use Rattle.bbq_core.proofs.Frames.{IsLater}
+use Rattle.bbq_core.specs.Cursors.{TakeWords, reserved_word, take_cursors}
+use Rattle.bbq_core.specs.Sound.{IsManned, IsSoundAt, opens_reserved, raises_consumer}
 use Rattle.bbq_core.proofs.Puts.{keeps_put, shared_step}
 use Rattle.bbq_core.proofs.Loads.{keeps_SeeR, keeps_SeeX}
 use Rattle.bbq_core.proofs.TakeLoads.{keeps_HeadC, keeps_NextCom, keeps_SeeAll, keeps_SeeCom, keeps_SeeRes}

@@ -1,6 +1,6 @@
 -- What the words and counts tell a take.
-use Rattle.std.proofs.Common.{◌≡◌, ℕ, ◌+◌, ◌-◌, ◌*◌, ◌/◌, ◌%◌, ◌<◌, ◌≤◌, ◌⊎◌, List, [], ◌∷◌, ◌++◌, refl, sym, ap, ◌∙◌, subst, inl, inr, ⊎_elim, arith}
-use Rattle.std.specs.Prelude.{Option, Some, slice_get, slice_index}
+use Rattle.std.proofs.Common.{◌≡◌, ℕ, ◌+◌, ◌-◌, ◌*◌, ◌/◌, ◌%◌, ◌<◌, ◌≤◌, List, [], ◌∷◌, ◌++◌, sym, ap, ◌∙◌, subst, ⊎_elim, arith}
+use Rattle.std.specs.Prelude.{Option, Some, slice_get}
 use Rattle.std.specs.List.{sum_by}
 use Rattle.std.proofs.lemmas.Bool.{cases_lt}
 use Rattle.std.proofs.lemmas.List.Sums.{sum_by-append, sum_by-le-sum_by}
@@ -13,7 +13,7 @@ use Rattle.cursor_word.proofs.Blocks.{latest, latest_is, same_block, shifted}
 use Rattle.rail.specs.declared.entry.Placed.{Placed}
 use Rattle.rail.specs.Items.{places}
 use Rattle.machine.proofs.Lists.{one_le_sum}
-use Rattle.put_side.specs.Cursors.{Front, place, put_cursors}
+use Rattle.put_side.specs.Cursors.{Front, place}
 use Rattle.put_side.specs.Counts.{makes, one_at, one_below, sum_below, times}
 use Rattle.put_side.specs.Places.{IsCurrent}
 use Rattle.put_side.proofs.Sums.{none_from, one_in, one_to, some_counts, sum_gap, times-cons, times_push, upto_misses}

@@ -1,19 +1,18 @@
 -- Loads of a take.
-use Rattle.std.proofs.Common.{◌≡◌, ℕ, ◌+◌, ◌*◌, ◌/◌, ◌%◌, ◌<◌, ◌≤◌, ◌≢◌, ◌⊎◌, List, [], Bool, refl, sym, ap, ◌∙◌, subst, inl, inr, ⊎_elim, arith}
-use Rattle.std.specs.Prelude.{Some, slice_get, slice_set, slice_index, if◌then◌else◌, nat_lt, ◌==◌}
+use Rattle.std.proofs.Common.{◌≡◌, ℕ, ◌+◌, ◌*◌, ◌/◌, ◌%◌, ◌<◌, ◌≤◌, ◌≢◌, List, refl, sym, ap, ◌∙◌, subst, arith}
+use Rattle.std.specs.Prelude.{Some, slice_get, slice_set, slice_index, ◌==◌}
 use Rattle.std.specs.List.{sum_by}
 use Rattle.cursor_word.specs.Shape.{Grid, IsWithinLimits}
 use Rattle.cursor_word.specs.Cursor.{offset_span, packed, unpacked}
 use Rattle.cursor_word.specs.declared.cursor.Cursor.{Cursor}
 use Rattle.cursor_word.proofs.Blocks.{latest, latest_is}
-use Rattle.rail.specs.declared.answer.Answer.{Answer}
 use Rattle.rail.specs.declared.answer.Answer.TheVariants as answer
 use Rattle.rail.specs.declared.answer.Take.TheVariants as taking
-use Rattle.machine.specs.declared.op.After.TheVariants.{Next, Done}
+use Rattle.machine.specs.declared.op.After.TheVariants.{Next}
 use Rattle.machine.specs.Steps.{view_after, words_after}
-use Rattle.put_side.specs.Cursors.{Front, committed_word, place, put_cursors}
+use Rattle.put_side.specs.Cursors.{Front, committed_word, place}
 use Rattle.put_side.specs.Counts.{makes, sum_below}
-use Rattle.put_side.proofs.Sums.{by_test, none_from, one_to, upto_all, upto_cut, upto_from, upto_le}
+use Rattle.put_side.proofs.Sums.{none_from, one_to, upto_all, upto_cut, upto_from, upto_le}
 use Rattle.put_side.proofs.Facts.{IsPhysical, found_open, physical, repacked}
 use Rattle.bbq_core.specs.declared.phase.Phase.TheVariants.{Take}
 use Rattle.bbq_core.specs.declared.take_phase.TakePhase.{TakePhase}
@@ -22,8 +21,8 @@ use Rattle.bbq_core.specs.Types.{After, View}
 use Rattle.bbq_core.specs.TakeSteps.{after_take, passed}
 use Rattle.bbq_core.specs.Table.{table}
 use Rattle.bbq_core.specs.Cursors.{reserved_word, take_cursors}
-use Rattle.bbq_core.specs.Counts.{reading, reading_in}
-use Rattle.bbq_core.specs.Sound.{IsPassed, IsReserved, IsSoundAt, Knows, TakeKnows, scene}
+use Rattle.bbq_core.specs.Counts.{reading}
+use Rattle.bbq_core.specs.Sound.{IsReserved, IsSoundAt, Knows, TakeKnows, scene}
 use Rattle.bbq_core.proofs.Loads.{IsNextOwn, answers, go_on, loads, pick_any, pick_equal, pick_less, pick_same}
 use Rattle.bbq_core.proofs.TakeFacts.{found_R, made_once, reserved_made, reserved_to}
 

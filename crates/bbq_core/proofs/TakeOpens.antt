@@ -13,9 +13,9 @@ use Rattle.cursor_word.proofs.Blocks.{latest_is, same_near, shifted}
 use Rattle.rail.specs.declared.entry.Placed.{Placed}
 use Rattle.rail.specs.Items.{IsRising, places}
 use Rattle.machine.specs.declared.op.After.TheVariants.{Next}
-use Rattle.machine.specs.Steps.{view_after, words_after}
-use Rattle.put_side.specs.Cursors.{Front, committed_word, place}
-use Rattle.put_side.specs.Counts.{makes, sum_below, times}
+use Rattle.machine.specs.Steps.{view_after}
+use Rattle.put_side.specs.Cursors.{Front, place}
+use Rattle.put_side.specs.Counts.{sum_below, times}
 use Rattle.put_side.specs.Places.{IsCurrent}
 use Rattle.put_side.proofs.Sums.{none_from, sum_same, upto_none, upto_same}
 use Rattle.put_side.proofs.Facts.{committed_below, physical, place_next}

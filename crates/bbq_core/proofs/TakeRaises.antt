@@ -1,5 +1,5 @@
 -- Steps of a take that raise a word where blocks are opened.
-use Rattle.std.proofs.Common.{◌≡◌, ℕ, ◌+◌, ◌*◌, ◌/◌, ◌%◌, ◌<◌, ◌≤◌, ◌≢◌, ◌⊎◌, max, List, ◌++◌, length, refl, sym, ap, ◌∙◌, subst, inl, inr, ⊎_elim, arith}
+use Rattle.std.proofs.Common.{◌≡◌, ℕ, ◌+◌, ◌*◌, ◌/◌, ◌%◌, ◌≤◌, ◌≢◌, ◌⊎◌, max, List, ◌++◌, refl, sym, ap, ◌∙◌, subst, inl, inr, ⊎_elim, arith}
 use Rattle.std.specs.Prelude.{Some, slice_get, slice_set, slice_index}
 use Rattle.std.proofs.lemmas.List.{get_or-set_same, get_or-set_other}
 use Rattle.std.proofs.lemmas.Bool.{cases_lt}
@@ -14,14 +14,14 @@ use Rattle.machine.specs.Steps.{view_after, words_after}
 use Rattle.put_side.specs.Cursors.{Front, place}
 use Rattle.put_side.proofs.Facts.{physical}
 use Rattle.bbq_core.specs.declared.phase.Phase.TheVariants.{Take}
-use Rattle.bbq_core.specs.declared.take_phase.TakePhase.TheVariants.{HeadC, OpenR, RaiseC}
+use Rattle.bbq_core.specs.declared.take_phase.TakePhase.TheVariants.{OpenR, RaiseC}
 use Rattle.bbq_core.specs.Types.{View}
 use Rattle.bbq_core.specs.Table.{table}
 use Rattle.bbq_core.specs.Cursors.{IsHalfOpen, IsOpen, TakeCursors, TakeWords, consumed_word, reserved_word, take_cursors}
-use Rattle.bbq_core.specs.Counts.{fetched, reading}
-use Rattle.bbq_core.specs.Sound.{IsPassed, IsSoundAt, scene}
+use Rattle.bbq_core.specs.Counts.{reading}
+use Rattle.bbq_core.specs.Sound.{IsSoundAt}
 use Rattle.bbq_core.proofs.Frames.{quiet, take_cursors_are}
-use Rattle.bbq_core.proofs.Loads.{go_on, loads, seen_by}
+use Rattle.bbq_core.proofs.Loads.{go_on, loads}
 use Rattle.bbq_core.proofs.TakeFacts.{consumed_below, lags_R, reserved_below}
 use Rattle.bbq_core.proofs.TakeLoads.{knows_at}
 use Rattle.bbq_core.proofs.TakeSteps.{head_at, long_enough, puts_stay, raised_later, reserved_at}

@@ -1,22 +1,20 @@
 -- Steps of a take that move a word leave the side of puts.
-use Rattle.std.proofs.Common.{◌≡◌, ℕ, ◌+◌, ◌*◌, ◌%◌, ◌<◌, ◌≤◌, ◌≢◌, List, [], length, refl, sym, ap, inl, arith}
+use Rattle.std.proofs.Common.{◌≡◌, ℕ, ◌+◌, ◌*◌, ◌%◌, ◌<◌, ◌≤◌, ◌≢◌, List, length, refl, sym, ap, inl, arith}
 use Rattle.std.specs.Prelude.{Some, slice_get, slice_set, slice_index}
 use Rattle.std.proofs.lemmas.List.{length-set, get_or-set_other}
 use Rattle.std.proofs.lemmas.Nat.{mod_below}
 use Rattle.cursor_word.specs.Shape.{Grid, IsWithinLimits}
-use Rattle.put_side.specs.Cursors.{Front, allocated_word, committed_word}
+use Rattle.put_side.specs.Cursors.{Front}
 use Rattle.put_side.specs.Stages as stages
 use Rattle.put_side.specs.PutSide.{PutSide}
 use Rattle.put_side.specs.PutTable.{stage_in}
-use Rattle.put_side.proofs.Frames.{Leaves}
-use Rattle.put_side.proofs.Made.{KeepsMade, made_same}
+use Rattle.put_side.proofs.Made.{made_same}
 use Rattle.put_side.proofs.Owns.{KeepsPutWords, keeps_own}
 use Rattle.put_side.proofs.Raises.{raised_to}
 use Rattle.bbq_core.specs.declared.phase.Phase.TheVariants.{Take}
 use Rattle.bbq_core.specs.declared.take_phase.TakePhase.{TakePhase}
 use Rattle.bbq_core.specs.Types.{View}
 use Rattle.bbq_core.specs.Stage.{stage, stage_of}
-use Rattle.bbq_core.specs.Cursors.{take_cursors}
 use Rattle.bbq_core.specs.Sound.{IsSoundAt, scene}
 use Rattle.bbq_core.proofs.Frames.{IsLater}
 
