@@ -33,3 +33,6 @@ pub mod AloneCalls
 pub mod AtRest
 pub mod LoneLaw
 pub mod Promises
+pub mod CallTable
+pub mod Promised
+pub mod SeatOrder

@@ -1,21 +1,21 @@
 -- Reading what is left, word by word and place by place.
-use Rattle.std.proofs.Common.{◌≡◌, ℕ, zero, suc, ◌+◌, ◌-◌, ◌%◌, ◌<◌, ◌≤◌, List, [], ◌∷◌, ◌++◌, length, map, set, take, sym, ap, ◌∙◌, append_assoc, arith}
+use Rattle.std.proofs.Common.{◌≡◌, ℕ, zero, suc, ◌+◌, ◌-◌, ◌%◌, ◌<◌, ◌≤◌, List, [], ◌∷◌, ◌++◌, length, map, set, take, refl, sym, ap, ◌∙◌, append_assoc, arith}
 use Rattle.std.specs.Prelude.{slice_index}
 use Rattle.std.specs.List.{range_with_len}
 use mathlib.Core.Option.{some}
 use lib.ListN.{get_elem?}
-use Rattle.std.proofs.lemmas.List.{map-append, take_more_set}
+use Rattle.std.proofs.lemmas.List.{take_more_set}
+use Rattle.std.proofs.lemmas.List.FromFn.{map-range_with_len_more}
 use Rattle.cursor_word.specs.Shape.{Grid}
 use Rattle.cursor_word.specs.Cursor.{cursor_of}
 use Rattle.cursor_word.specs.Layout.{entry_index}
 use Rattle.cursor_word.specs.declared.cursor.Cursor.{Cursor}
 use Rattle.rail.specs.declared.entry.Placed.{Placed}
 use Rattle.rail.specs.Items.{placed}
-use Rattle.bbq_core.specs.Gathered.{entry_at, left_in}
-use Rattle.bbq_core.proofs.Orders.{range_more}
+use Rattle.call_laws.specs.Left.{entry_at, left_in}
 
 map_more : {X : Type 0} (f : ℕ → X) (a n : ℕ) → map f (range_with_len a (suc n)) ≡ map f (range_with_len a n) ++ f (a + n) ∷ []
-map_more f a n = ap (map f) (range_more a n) ∙ map-append f (range_with_len a n) ((a + n) ∷ [])
+map_more f a n = let one : suc n ≡ n + 1 = omega arith in ap (λ (k : ℕ). map f (range_with_len a k)) one ∙ map-range_with_len_more f a n (a + n) refl
 
 read_some : (words : List ℕ) (i x : ℕ) → get_elem? words i ≡ some x → slice_index words i ≡ x
 read_some [] i x e = cc

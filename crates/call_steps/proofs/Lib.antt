@@ -1,9 +1,6 @@
-pub mod Phases
+pub mod Seen
 pub mod Follows
 pub mod Loop
+pub mod LeftItems
+pub mod Lengths
 pub mod Last
-mod LeftItems
-pub mod Values
-pub mod Recalls
-pub mod Room
-pub mod Promised

@@ -1,5 +1,5 @@
 -- What a call leaves.
-use Rattle.std.specs.Prelude.{◌≡◌, ℕ, ◌<◌, ◌≤◌, List, [], ◌∷◌, ◌++◌, length, map, Some, None, slice_set}
+use Rattle.std.specs.Prelude.{◌≡◌, ℕ, ◌≤◌, List, [], ◌∷◌, ◌++◌, length, map, Some, None}
 use Rattle.cursor_word.specs.Shape.{Grid}
 use Rattle.rail.specs.Items.{placed}
 use Rattle.rail.specs.declared.entry.Placed.{Placed}
@@ -10,49 +10,52 @@ use Rattle.rail.specs.declared.answer.Put.TheVariants as put
 use Rattle.rail.specs.declared.answer.Take.{Take}
 use Rattle.rail.specs.declared.answer.Take.TheVariants as take
 use Rattle.step_log.specs.declared.step.Taken.{Taken}
-use Rattle.bbq_core.specs.declared.phase.Phase.{Phase}
-use Rattle.bbq_core.specs.declared.phase.Phase.TheVariants as phase
-use Rattle.bbq_core.specs.declared.take_phase.TakePhase.TheVariants.{Read}
-use Rattle.bbq_core.specs.declared.view.View.{View}
-use Rattle.bbq_core.specs.declared.op.After.{After}
-use Rattle.bbq_core.specs.declared.op.After.TheVariants.{Next, Done}
-use Rattle.bbq_core.specs.PutSteps.{after, rank}
-use Rattle.call_steps.specs.Steps.{Leads, value_of}
+use Rattle.machine.specs.declared.view.View.{View}
+use Rattle.machine.specs.declared.op.After.{After}
+use Rattle.machine.specs.declared.op.After.TheVariants.{Next, Done}
+use Rattle.machine.specs.Table.{Table}
+use Rattle.call_steps.specs.Rule.{Rule, logged, value_of}
+
+-- These steps lead from s to b: each is the step that its phase wants, and the value that it found
+-- leads on, by the machine's table. No step follows an answer.
+module _ {P : Type 0} (t : Table P) (g : Grid) (entry : List ℕ) where
+  abbrev pub Leads : After P → List Taken → After P → Type 0
+  Leads s [] b = s ≡ b
+  Leads (Next p) (k ∷ ks) b = (k ≡ logged (t.want g p entry) (value_of k))
+      × Leads (t.after g p (value_of k)) ks b
+  Leads (Done a) (k ∷ ks) b = ⊥
 
 -- The walk of a seat's view through these steps, with what the rule told at each.
-module _ {V : Type 0} (moves_to : V → Phase → ℕ → V) (Tells : V → Phase → ℕ → Type 0) (g : Grid) where
-  abbrev pub Walks : After → V → List Taken → V → Type 0
+module _ {P V : Type 0} (t : Table P) (r : Rule P V) (g : Grid) where
+  abbrev pub Walks : After P → V → List Taken → V → Type 0
   Walks s v [] w = v ≡ w
-  Walks (Next p) v (k ∷ ks) w = Tells v p (value_of k) × Walks (after g p (value_of k)) (moves_to v p (value_of k)) ks w
+  Walks (Next p) v (k ∷ ks) w = r.Tells v p (value_of k)
+      × Walks (t.after g p (value_of k)) (r.moves_to v p (value_of k)) ks w
   Walks (Done a) v (k ∷ ks) w = ⊥
 
--- A call that began at this phase took these steps, each once and no other, and they lead to exactly this answer.
-pub record TookSteps (g : Grid) (entry : List ℕ) (first : Phase) (steps : List Taken) (answer : Answer) (found : List ℕ) (old_log new_log : List Taken) : Type 0 where
-  pub leads : Leads g entry (Next first) steps (Done answer)
+-- A call that began at this phase took these steps, each once and no other, and they lead to
+-- exactly this answer.
+pub record TookSteps {P : Type 0} (t : Table P) (g : Grid) (entry : List ℕ) (first : P)
+    (steps : List Taken) (answer : Answer) (found : List ℕ)
+    (old_log new_log : List Taken) : Type 0 where
+  pub leads : Leads t g entry (Next first) steps (Done answer)
   pub values : found ≡ map value_of steps
   pub log : new_log ≡ old_log ++ steps
-  pub few : length steps ≤ rank g first
+  pub few : length steps ≤ t.rank g first
 
--- what a put of this entry leaves in the made list, and a take in the taken list and in its caller's buffer
+-- what a put of this entry leaves in the made list, and a take in the taken list and in its
+-- caller's buffer
 abbrev pub PutLeaves : List Placed → List Placed → List ℕ → Put → Type 0
 PutLeaves old new entry (put.Ok place) = new ≡ old ++ placed place entry ∷ []
 PutLeaves old new entry a = new ≡ old
 
 abbrev pub TakeLeaves : List Placed → List Placed → List ℕ → List ℕ → Take → Type 0
 TakeLeaves old new out_old out (take.Ok place) = new ≡ old ++ placed place out ∷ []
+TakeLeaves old new out_old out (take.Overrun place now) = new ≡ old
 TakeLeaves old new out_old out a = (new ≡ old) × (out ≡ out_old)
 
--- the buffer after the step of a phase that found n
-abbrev pub out_after : Phase → List ℕ → ℕ → List ℕ
-out_after (phase.Take (Read at next)) out n = slice_set out next n
-out_after p out n = out
-
-abbrev pub ReadsWithin : Phase → ℕ → Type 0
-ReadsWithin (phase.Take (Read at next)) len = next < len
-ReadsWithin p len = Unit {0}
-
 -- a seat at rest after a put
-pub record HasPut (entry : List ℕ) (old new : View) (result : Put) : Type 0 where
+pub record HasPut {P : Type 0} (entry : List ℕ) (old new : View P) (result : Put) : Type 0 where
   pub rest : new.phase ≡ None
   pub made : PutLeaves old.made new.made entry result
   pub taken : new.taken ≡ old.taken
@@ -60,7 +63,8 @@ pub record HasPut (entry : List ℕ) (old new : View) (result : Put) : Type 0 wh
   pub in_hand : new.entry ≡ entry
 
 -- a seat at rest after a take
-pub record HasTaken (out_old out : List ℕ) (old new : View) (result : Take) : Type 0 where
+pub record HasTaken {P : Type 0} (out_old out : List ℕ) (old new : View P)
+    (result : Take) : Type 0 where
   pub rest : new.phase ≡ None
   pub made : new.made ≡ old.made
   pub taken : TakeLeaves old.taken new.taken out_old out result

@@ -1,5 +1,5 @@
-pub mod Steps
 pub mod Rule
+pub mod Buffer
 pub mod Call
 pub mod Midway
 pub mod Queue

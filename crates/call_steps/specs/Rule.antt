@@ -1,70 +1,115 @@
--- What a rule of shared words says of the machine, so that calls can do the machine's steps under it.
-use Rattle.std.specs.Prelude.{◌≡◌, ℕ, ◌+◌, ◌<◌, ◌≤◌, List, length, Option, Some, None}
+-- A rule of shared words under which a machine's calls are run.
+use Rattle.std.specs.Prelude.{◌≡◌, ℕ, ◌+◌, ◌<◌, ◌≤◌, List, Bool, Option, Some, None, if◌then◌else◌, length}
 use Rattle.cursor_word.specs.Shape.{Grid}
 use Rattle.cursor_word.specs.Cursor.{most_puts}
+use Rattle.rail.specs.declared.answer.Answer.{Answer}
 use Rattle.step_log.specs.declared.step.Taken.{Taken}
-use Rattle.step_log.specs.Log.{Keeps}
-use Rattle.bbq_core.specs.declared.event.Start.{Start}
-use Rattle.bbq_core.specs.declared.event.Start.TheVariants as start
-use Rattle.bbq_core.specs.declared.phase.Phase.{Phase}
-use Rattle.bbq_core.specs.declared.phase.Phase.TheVariants as phase
-use Rattle.bbq_core.specs.declared.view.View.{View}
-use Rattle.bbq_core.specs.declared.op.After.{After}
-use Rattle.bbq_core.specs.declared.op.After.TheVariants.{Next, Done}
-use Rattle.bbq_core.specs.PutSteps.{FindsFit, IsInRange, after, want}
-use Rattle.bbq_core.specs.Machine.{begun, index, moved, seen}
-use Rattle.call_steps.specs.Steps.{logged, value_of}
+use Rattle.step_log.specs.Log.{Keeps, added, loaded, raised, stored}
+use Rattle.machine.specs.declared.op.Op.{Op}
+use Rattle.machine.specs.declared.op.Op.TheVariants.{Load, Store, AddOne, Max}
+use Rattle.machine.specs.declared.op.After.{After}
+use Rattle.machine.specs.declared.op.After.TheVariants.{Next, Done}
+use Rattle.machine.specs.declared.event.Start.{Start}
+use Rattle.machine.specs.declared.event.Start.TheVariants as start
+use Rattle.machine.specs.declared.view.View.{View}
+use Rattle.machine.specs.Ops.{index, moved}
+use Rattle.machine.specs.Table.{Table}
+use Rattle.machine.specs.Steps.{begun, seen}
+use Rattle.call_laws.specs.Answers.{HasTrail, Promises}
+
+-- what the log of a seat gains by this step, where the word was n
+abbrev pub logged : Op → ℕ → Taken
+logged (Load i) n = loaded i n
+logged (Store i x) n = stored i x
+logged (AddOne i) n = added i n
+logged (Max i x) n = raised i x n
+
+abbrev pub found_or : Option ℕ → ℕ → ℕ
+found_or None x = x
+found_or (Some n) x = n
+
+-- the value that a step found, and of a store the value that it wrote
+abbrev pub value_of : Taken → ℕ
+value_of step = found_or step.found step.brought
 
 -- the phase that follows is in range
-abbrev pub IsAfterInRange : Grid → After → Type 0
-IsAfterInRange g (Next p) = IsInRange g p
-IsAfterInRange g (Done a) = Unit {0}
+abbrev pub IsAfterInRange : {P : Type 0} → Table P → Grid → After P → Type 0
+IsAfterInRange t g (Next p) = t.IsInRange g p
+IsAfterInRange t g (Done a) = Unit {0}
 
--- a step of phase p may find n
-pub record MayFind (g : Grid) (p : Phase) (n : ℕ) : Type 0 where
-  pub fits : FindsFit p n
-  pub follows : IsAfterInRange g (after g p n)
+-- a step of this phase may find n
+pub record MayFind {P : Type 0} (t : Table P) (g : Grid) (p : P) (n : ℕ) : Type 0 where
+  pub fits : t.FindsFit p n
+  pub follows : IsAfterInRange t g (t.after g p n)
 
 -- a seat with this view may do this call
-abbrev pub MayDo : Grid → View → Start → Type 0
+abbrev pub MayDo : {P : Type 0} → Grid → View P → Start → Type 0
 MayDo g v (start.Put entry) = (length entry ≡ g.width) × (length v.made < most_puts g)
 MayDo g v start.Take = Unit {0}
 MayDo g v start.Go = ⊥
 
 -- how many entries a seat may still make in its call
-abbrev pub may_make : Option Phase → ℕ
-may_make None = 0
-may_make (Some (phase.Take q)) = 0
-may_make (Some p) = 1
+abbrev pub may_make : {P : Type 0} → Table P → Option P → ℕ
+may_make t None = 0
+may_make t (Some p) = if t.is_put p then 1 else 0
 
 -- a seat makes no more entries than a seat may
-abbrev pub HasRoom : Grid → View → Type 0
-HasRoom g v = length v.made + may_make v.phase ≤ most_puts g
+abbrev pub HasRoom : {P : Type 0} → Table P → Grid → View P → Type 0
+HasRoom t g v = length v.made + may_make t v.phase ≤ most_puts g
 
-module _ {V : Type 0} (view_of : V → View) (begins : V → Start → V) where
+-- How the views V of a rule are the machine's: the shape and the machine's view in each, whether it
+-- is that of one caller's seat, the view of a seat that begins a call and that after a step, and
+-- what the rule tells of a value that the step of a phase found.
+pub record Rule (P V : Type 0) : Type 1 where
+  pub grid_of : V → Grid
+  pub view_of : V → View P
+  pub Sits : V → Type 0
+  pub begins : V → Start → V
+  pub moves_to : V → P → ℕ → V
+  pub Tells : V → P → ℕ → Type 0
+
+module _ {P V : Type 0} (r : Rule P V) where
   -- the view in a call: a seat at rest begins it
-  abbrev pub in_phase : V → Start → Option Phase → V
-  in_phase v s None = begins v s
-  in_phase v s (Some p) = v
+  abbrev pub in_phase : V → Start → Option P → V
+  in_phase v call None = r.begins v call
+  in_phase v call (Some p) = v
 
   abbrev pub in_call : V → Start → V
-  in_call v s = in_phase v s (view_of v).phase
+  in_call v call = in_phase v call (r.view_of v).phase
 
-module _ {V : Type 0} (moves_to : V → Phase → ℕ → V) (Tells : V → Phase → ℕ → Type 0) where
-  -- what the step of a phase says, which found n: the view after it, and what the rule tells of the value
-  abbrev pub Moves : V → Option Phase → ℕ → V → Type 0
+  -- what the step of a phase says, which found n: the view after it, and what the rule tells of the
+  -- value
+  abbrev pub Moves : V → Option P → ℕ → V → Type 0
   Moves v None n w = ⊥
-  Moves v (Some p) n w = (w ≡ moves_to v p n) × Tells v p n
+  Moves v (Some p) n w = (w ≡ r.moves_to v p n) × r.Tells v p n
 
-module _ {V : Type 0} (view_of : V → View) (begins : V → Start → V) (moves_to : V → Phase → ℕ → V) (Tells : V → Phase → ℕ → Type 0) where
   -- a seat did the next step of this call, and began it where it was at rest
   abbrev pub DoesStep : Start → V → Taken → V → Type 0
-  DoesStep s v t w = Moves moves_to Tells (in_call view_of begins v s) (view_of (in_call view_of begins v s)).phase (value_of t) w
+  DoesStep call v step w =
+      Moves (in_call v call) (r.view_of (in_call v call)).phase (value_of step) w
 
--- the rule is the machine's: the views of seats that do calls and their steps are the machine's, what it tells lets the next step be done, and each step of a call keeps it
-pub record IsMachines {K V : Type 0} (holds : K → List ℕ → List V → Type 0) (grid_of : V → Grid) (view_of : V → View) (Sits : V → Type 0) (begins : V → Start → V) (moves_to : V → Phase → ℕ → V) (Tells : V → Phase → ℕ → Type 0) : Type 0 where
-  pub call_begins : (v : V) (s : Start) → Sits v → (view_of v).phase ≡ None → (view_of (begins v s) ≡ begun (view_of v) None s) × (grid_of (begins v s) ≡ grid_of v) × Sits (begins v s)
-  pub phase_moves : (v : V) (p : Phase) (n : ℕ) → Sits v → (view_of (moves_to v p n) ≡ seen (grid_of v) (view_of v) p n) × (grid_of (moves_to v p n) ≡ grid_of v) × Sits (moves_to v p n)
-  pub told : (v : V) (p : Phase) (n : ℕ) → Tells v p n → MayFind (grid_of v) p n
-  pub kept : (key : K) (v : V) (s : Start) (p : Phase) → Sits v → MayDo (grid_of v) (view_of v) s → (view_of (in_call view_of begins v s)).phase ≡ Some p
-      → (let o = want (grid_of v) p (view_of (in_call view_of begins v s)).entry in Keeps (holds key) v (index o) (moved o) (λ n. DoesStep view_of begins moves_to Tells s v (logged o n)))
+  -- The calls of the machine can be run under the rule: its views move as the machine's do, what it
+  -- tells of a value lets the next step be done and keeps what a queue promises of an answer, and
+  -- each step of a call keeps the rule.
+  pub record RunsCalls {K : Type 0} (t : Table P) (drops : Bool)
+      (holds : K → List ℕ → List V → Type 0) : Type 0 where
+    pub call_begins : (v : V) (call : Start)
+        → r.Sits v → (r.view_of v).phase ≡ None
+        → (r.view_of (r.begins v call) ≡ begun t (r.grid_of v) (r.view_of v) None call)
+        × (r.grid_of (r.begins v call) ≡ r.grid_of v)
+        × r.Sits (r.begins v call)
+    pub phase_moves : (v : V) (p : P) (n : ℕ)
+        → r.Sits v
+        → (r.view_of (r.moves_to v p n) ≡ seen t (r.grid_of v) (r.view_of v) p n)
+        × (r.grid_of (r.moves_to v p n) ≡ r.grid_of v)
+        × r.Sits (r.moves_to v p n)
+    pub told : (v : V) (p : P) (n : ℕ) → r.Tells v p n → MayFind t (r.grid_of v) p n
+    pub promised : (v : V) (p : P) (n : ℕ) (a : Answer)
+        → r.Tells v p n → t.after (r.grid_of v) p n ≡ Done a
+        → HasTrail t (r.grid_of v) (r.view_of v) p
+        → Promises (r.grid_of v) drops (r.view_of v) (seen t (r.grid_of v) (r.view_of v) p n) a
+    pub kept : (key : K) (v : V) (call : Start) (p : P)
+        → r.Sits v → MayDo (r.grid_of v) (r.view_of v) call
+        → (r.view_of (in_call v call)).phase ≡ Some p
+        → (let op = t.want (r.grid_of v) p (r.view_of (in_call v call)).entry in
+        Keeps (holds key) v (index op) (moved op) (λ n. DoesStep call v (logged op n)))

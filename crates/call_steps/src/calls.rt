@@ -1,64 +1,77 @@
 //! The calls of a seat, step by step.
-ghost use Rattle.std.specs.Prelude.{◌≡◌, ℕ, ◌<◌, ◌≤◌, ◌++◌, List, [], length, None};
+ghost use Rattle.std.specs.Prelude.{◌≡◌, ℕ, ◌<◌, ◌≤◌, List, [], length, None};
 ghost use Rattle.cursor_word.specs.Layout.{word_count};
 ghost use Rattle.cursor_word.specs.Cursor.{most_puts};
-ghost use Rattle.rail.specs.declared.answer.Answer.TheVariants as answer;
-ghost use Rattle.step_log.specs.declared.step.Taken.{Taken};
-ghost use Rattle.bbq_core.specs.declared.event.Start.TheVariants as start;
-ghost use Rattle.bbq_core.specs.declared.op.After.TheVariants.{Next};
-ghost use Rattle.bbq_core.specs.PutSteps.{first_put, rank};
-ghost use Rattle.step_log.specs.Log.{Sitting};
-ghost use Rattle.call_steps.specs.Midway.{IsPutAt, IsPutOn, IsTakeAt, IsTakeOn, steps_left};
-ghost use Rattle.bbq_core.specs.TakeSteps.{first_take};
-ghost use Rattle.call_steps.specs.Rule.{IsMachines};
-ghost use Rattle.call_steps.specs.Call.{HasPut, HasTaken, ReadsWithin, TookSteps, Walks, out_after};
+ghost use Rattle.machine.specs.declared.event.Start.TheVariants as start;
+ghost use Rattle.call_laws.specs.Calls.{IsWordWithin};
+ghost use Rattle.call_steps.specs.Buffer.{out_after};
+ghost use Rattle.call_steps.specs.Midway.{Call, HasAnsweredPut, HasAnsweredTake, IsFree, IsPutAt, IsPutOn, IsTakeAt, IsTakeOn, put_call, steps_left, take_call};
 
 use crate::operation::operate;
 use crate::rule::{Call, MachineRule, NextStep};
-use bbq_core::{After, Phase, TakePhase, after, first_put, first_take, want};
+use call_laws::CallPhase;
 use cursor_word::Shape;
+use machine::After;
 use rail::{Answer, Put, Take};
 use step_log::{WordSeat, Words};
 
-/// Puts an entry by the machine's steps, at most as many as the words of an entry and eleven more.
-pub fn run_put<U: MachineRule, E: Call>(
+/// Puts an entry by the machine's steps and no other.
+pub fn run_put<P: CallPhase, U: MachineRule<P>, E: Call>(
     words: &Words<U>,
     shape: &Shape,
     seat: &mut WordSeat<U>,
     entry: &[u64],
 ) -> Put
-    requires machine { IsMachines U.holds U.grid_of U.view_of U.Sits U.begins U.moves_to U.Tells }
     requires words { words.now.id.words ≡ word_count shape.now }
     requires own { seat.old.id ≡ words.now.id }
-    requires shape { U.grid_of seat.old.view ≡ shape.now }
-    requires sits { U.Sits seat.old.view }
-    requires rest { (U.view_of seat.old.view).phase ≡ None }
+    requires free { IsFree U.rule shape.now seat.old.view }
     requires width { length entry.now ≡ shape.now.width }
-    requires room { length (U.view_of seat.old.view).made < most_puts shape.now }
+    requires room { length (U.rule.view_of seat.old.view).made < most_puts shape.now }
     requires call { E.start ≡ start.Put entry.now }
-    ensures same { seat.new.id ≡ seat.old.id }
-    ensures shape { U.grid_of seat.new.view ≡ shape.now }
-    ensures sits { U.Sits seat.new.view }
-    ensures view { HasPut entry.now (U.view_of seat.old.view) (U.view_of seat.new.view) result }
-    ensures steps { (steps : List Taken) × TookSteps shape.now entry.now first_put steps (answer.Put result) (U.view_of seat.new.view).trail seat.old.log seat.new.log × Walks U.moves_to U.Tells shape.now (Next first_put) (U.begins seat.old.view E.start) steps seat.new.view }
+    ensures { HasAnsweredPut P.table P.drops U.rule (put_call P.table shape.now entry.now seat.old)
+        seat.new result }
 {
-    // A copy, which no step on the shared words can seem to change: its numbers stay in registers.
+    P::calls();
+    U::runs();
     let own = *shape;
     let shape = &own;
-    // The usual way of a put, phase by phase: each phase has code of its own, which leads straight on to that of the next one.
-    let reads_head = |phase: &Phase| matches!(phase, Phase::HeadP { .. });
-    let sees_allocated = |phase: &Phase| matches!(phase, Phase::SeeA { .. });
-    let adds = |phase: &Phase| matches!(phase, Phase::AddA { .. });
-    let writes = |phase: &Phase| matches!(phase, Phase::Write { .. });
-    let state = After::Next(first_put());
-    let state = put_while::<U, E, _>(words, shape, seat, entry, state, reads_head);
-    let state = put_while::<U, E, _>(words, shape, seat, entry, state, sees_allocated);
-    let state = put_while::<U, E, _>(words, shape, seat, entry, state, adds);
-    let state = put_while::<U, E, _>(words, shape, seat, entry, state, writes);
+    let state = After::Next(P::first_put());
+    let state = put_while::<P, U, E, _>(
+        words,
+        shape,
+        seat,
+        entry,
+        state,
+        |phase: &P| phase.stage() == 0,
+    );
+    let state = put_while::<P, U, E, _>(
+        words,
+        shape,
+        seat,
+        entry,
+        state,
+        |phase: &P| phase.stage() == 1,
+    );
+    let state = put_while::<P, U, E, _>(
+        words,
+        shape,
+        seat,
+        entry,
+        state,
+        |phase: &P| phase.stage() == 2,
+    );
+    let state = put_while::<P, U, E, _>(
+        words,
+        shape,
+        seat,
+        entry,
+        state,
+        |phase: &P| phase.stage() == 3,
+    );
     let mut state = state;
     loop {
         match state {
-            After::Next(phase) => state = put_step::<U, E>(words, shape, seat, entry, phase),
+            After::Next(phase) => state = put_step::<P, U, E>(words, shape, seat, entry, phase),
             After::Done(Answer::Put(answer)) => return answer,
             After::Done(Answer::Take(_)) => unreachable!(),
         }
@@ -67,97 +80,140 @@ pub fn run_put<U: MachineRule, E: Call>(
 
 // Does the steps of a put for as long as its phases are of a kind.
 #[inline(always)]
-fn put_while<U: MachineRule, E: Call, F: Fn(&Phase) -> bool>(
+fn put_while<P: CallPhase, U: MachineRule<P>, E: Call, F: Fn(&P) -> bool>(
     words: &Words<U>,
     shape: &Shape,
     seat: &mut WordSeat<U>,
     entry: &[u64],
-    mut state: After,
+    mut state: After<P>,
     is_of_kind: F,
-) -> After
-    requires machine { IsMachines U.holds U.grid_of U.view_of U.Sits U.begins U.moves_to U.Tells }
+) -> After<P>
     requires words { words.now.id.words ≡ word_count shape.now }
     requires own { seat.old.id ≡ words.now.id }
     requires width { length entry.now ≡ shape.now.width }
     requires kind { F.IsAlwaysCallable is_of_kind }
-    requires on { (old : Sitting U.View) × IsPutOn U.grid_of U.view_of U.Sits U.begins U.moves_to U.Tells shape.now entry.now E.start old seat.old state }
+    requires on { (c : Call P U.View) × (c.shape ≡ shape.now) × (c.words ≡ entry.now)
+        × (c.start ≡ E.start) × IsPutOn P.table P.drops U.rule c seat.old state }
     ensures same { seat.new.id ≡ seat.old.id }
-    ensures on { (old : Sitting U.View) → IsPutOn U.grid_of U.view_of U.Sits U.begins U.moves_to U.Tells shape.now entry.now E.start old seat.old state → IsPutOn U.grid_of U.view_of U.Sits U.begins U.moves_to U.Tells shape.now entry.now E.start old seat.new result }
+    ensures on { (c : Call P U.View) → c.shape ≡ shape.now → c.words ≡ entry.now → c.start ≡ E.start
+        → IsPutOn P.table P.drops U.rule c seat.old state
+        → IsPutOn P.table P.drops U.rule c seat.new result }
 {
+    P::calls();
     loop {
-        match state {
-            After::Next(phase) if is_of_kind(&phase) => {
-                state = put_step::<U, E>(words, shape, seat, entry, phase);
-            }
-            _ => return state,
+        let phase = match state {
+            After::Next(phase) => phase,
+            After::Done(answer) => return After::Done(answer),
+        };
+        if !is_of_kind(&phase) {
+            return After::Next(phase);
         }
+        state = put_step::<P, U, E>(words, shape, seat, entry, phase);
     }
 }
 
 // One step of a put.
 #[inline(always)]
-fn put_step<U: MachineRule, E: Call>(
+fn put_step<P: CallPhase, U: MachineRule<P>, E: Call>(
     words: &Words<U>,
     shape: &Shape,
     seat: &mut WordSeat<U>,
     entry: &[u64],
-    phase: Phase,
-) -> After
-    requires machine { IsMachines U.holds U.grid_of U.view_of U.Sits U.begins U.moves_to U.Tells }
+    phase: P,
+) -> After<P>
     requires words { words.now.id.words ≡ word_count shape.now }
     requires own { seat.old.id ≡ words.now.id }
     requires width { length entry.now ≡ shape.now.width }
-    requires at { (old : Sitting U.View) × IsPutAt U.grid_of U.view_of U.Sits U.begins U.moves_to U.Tells shape.now entry.now E.start old seat.old phase }
+    requires at { (c : Call P U.View) × (c.shape ≡ shape.now) × (c.words ≡ entry.now)
+        × (c.start ≡ E.start) × IsPutAt P.table P.drops U.rule c seat.old phase }
     ensures same { seat.new.id ≡ seat.old.id }
-    ensures on { (old : Sitting U.View) → IsPutAt U.grid_of U.view_of U.Sits U.begins U.moves_to U.Tells shape.now entry.now E.start old seat.old phase → IsPutOn U.grid_of U.view_of U.Sits U.begins U.moves_to U.Tells shape.now entry.now E.start old seat.new result }
-    ensures falls { steps_left shape.now result < rank shape.now phase }
+    ensures on { (c : Call P U.View) → c.shape ≡ shape.now → c.words ≡ entry.now → c.start ≡ E.start
+        → IsPutAt P.table P.drops U.rule c seat.old phase
+        → IsPutOn P.table P.drops U.rule c seat.new result }
+    ensures falls { steps_left P.table shape.now result < P.table.rank shape.now phase }
 {
-    let op = want(shape, &phase, entry);
-    let found = operate::<U, NextStep<E>>(words, seat, &op);
-    after(shape, &phase, found)
+    P::calls();
+    U::runs();
+    let op = phase.want(shape, entry);
+    let found = operate::<U, NextStep<P, E>>(words, seat, &op);
+    phase.after(shape, found)
 }
 
-/// Takes an entry by the machine's steps, at most as many as the words of an entry and twelve more. It reads into `out`, which only a take that answers Ok changes.
-pub fn run_take<U: MachineRule, E: Call>(
+/// Takes an entry by the machine's steps and no other. It begins in the phase that the machine's
+/// table names.
+pub fn run_take<P: CallPhase, U: MachineRule<P>, E: Call>(
     words: &Words<U>,
     shape: &Shape,
     seat: &mut WordSeat<U>,
+    first: P,
     out: &mut [u64],
 ) -> Take
-    requires machine { IsMachines U.holds U.grid_of U.view_of U.Sits U.begins U.moves_to U.Tells }
     requires words { words.now.id.words ≡ word_count shape.now }
     requires own { seat.old.id ≡ words.now.id }
-    requires shape { U.grid_of seat.old.view ≡ shape.now }
-    requires sits { U.Sits seat.old.view }
-    requires rest { (U.view_of seat.old.view).phase ≡ None }
+    requires free { IsFree U.rule shape.now seat.old.view }
+    requires first { first ≡ P.table.first_take shape.now (U.rule.view_of seat.old.view).taken }
     requires width { length out.old ≡ shape.now.width }
     requires call { E.start ≡ start.Take }
-    ensures same { seat.new.id ≡ seat.old.id }
-    ensures shape { U.grid_of seat.new.view ≡ shape.now }
-    ensures sits { U.Sits seat.new.view }
-    ensures view { HasTaken out.old out.new (U.view_of seat.old.view) (U.view_of seat.new.view) result }
-    ensures steps { (steps : List Taken) × TookSteps shape.now [] first_take steps (answer.Take result) (U.view_of seat.new.view).trail seat.old.log seat.new.log × Walks U.moves_to U.Tells shape.now (Next first_take) (U.begins seat.old.view E.start) steps seat.new.view }
+    ensures { HasAnsweredTake P.table P.drops U.rule
+        (take_call P.table U.rule shape.now out.old seat.old) seat.new out.new result }
 {
-    // As for a put.
+    P::calls();
+    U::runs();
     let own = *shape;
     let shape = &own;
-    let reads_head = |phase: &Phase| matches!(phase, Phase::Take(TakePhase::HeadC { .. }));
-    let sees_reserved = |phase: &Phase| matches!(phase, Phase::Take(TakePhase::SeeRes { .. }));
-    let sees_committed = |phase: &Phase| matches!(phase, Phase::Take(TakePhase::SeeCom { .. }));
-    let sees_allocated = |phase: &Phase| matches!(phase, Phase::Take(TakePhase::SeeAll { .. }));
-    let reserves = |phase: &Phase| matches!(phase, Phase::Take(TakePhase::Reserve { .. }));
-    let reads = |phase: &Phase| matches!(phase, Phase::Take(TakePhase::Read { .. }));
-    let state = After::Next(first_take());
-    let state = take_while::<U, E, _>(words, shape, seat, out, state, reads_head);
-    let state = take_while::<U, E, _>(words, shape, seat, out, state, sees_reserved);
-    let state = take_while::<U, E, _>(words, shape, seat, out, state, sees_committed);
-    let state = take_while::<U, E, _>(words, shape, seat, out, state, sees_allocated);
-    let state = take_while::<U, E, _>(words, shape, seat, out, state, reserves);
-    let state = take_while::<U, E, _>(words, shape, seat, out, state, reads);
+    let state = After::Next(first);
+    let state = take_while::<P, U, E, _>(
+        words,
+        shape,
+        seat,
+        out,
+        state,
+        |phase: &P| phase.stage() == 0,
+    );
+    let state = take_while::<P, U, E, _>(
+        words,
+        shape,
+        seat,
+        out,
+        state,
+        |phase: &P| phase.stage() == 1,
+    );
+    let state = take_while::<P, U, E, _>(
+        words,
+        shape,
+        seat,
+        out,
+        state,
+        |phase: &P| phase.stage() == 2,
+    );
+    let state = take_while::<P, U, E, _>(
+        words,
+        shape,
+        seat,
+        out,
+        state,
+        |phase: &P| phase.stage() == 3,
+    );
+    let state = take_while::<P, U, E, _>(
+        words,
+        shape,
+        seat,
+        out,
+        state,
+        |phase: &P| phase.stage() == 4,
+    );
+    let state = take_while::<P, U, E, _>(
+        words,
+        shape,
+        seat,
+        out,
+        state,
+        |phase: &P| phase.stage() == 5,
+    );
     let mut state = state;
     loop {
         match state {
-            After::Next(phase) => state = take_step::<U, E>(words, shape, seat, out, phase),
+            After::Next(phase) => state = take_step::<P, U, E>(words, shape, seat, out, phase),
             After::Done(Answer::Take(answer)) => return answer,
             After::Done(Answer::Put(_)) => unreachable!(),
         }
@@ -166,63 +222,71 @@ pub fn run_take<U: MachineRule, E: Call>(
 
 // Does the steps of a take for as long as its phases are of a kind.
 #[inline(always)]
-fn take_while<U: MachineRule, E: Call, F: Fn(&Phase) -> bool>(
+fn take_while<P: CallPhase, U: MachineRule<P>, E: Call, F: Fn(&P) -> bool>(
     words: &Words<U>,
     shape: &Shape,
     seat: &mut WordSeat<U>,
     out: &mut [u64],
-    mut state: After,
+    mut state: After<P>,
     is_of_kind: F,
-) -> After
-    requires machine { IsMachines U.holds U.grid_of U.view_of U.Sits U.begins U.moves_to U.Tells }
+) -> After<P>
     requires words { words.now.id.words ≡ word_count shape.now }
     requires own { seat.old.id ≡ words.now.id }
     requires kind { F.IsAlwaysCallable is_of_kind }
-    requires on { (old : Sitting U.View) × (out_old : List ℕ) × IsTakeOn U.grid_of U.view_of U.Sits U.begins U.moves_to U.Tells shape.now E.start old seat.old out_old out.old state }
+    requires on { (c : Call P U.View) × (c.shape ≡ shape.now) × (c.start ≡ E.start)
+        × IsTakeOn P.table P.drops U.rule c seat.old out.old state }
     ensures same { seat.new.id ≡ seat.old.id }
-    ensures on { (old : Sitting U.View) (out_old : List ℕ) → IsTakeOn U.grid_of U.view_of U.Sits U.begins U.moves_to U.Tells shape.now E.start old seat.old out_old out.old state → IsTakeOn U.grid_of U.view_of U.Sits U.begins U.moves_to U.Tells shape.now E.start old seat.new out_old out.new result }
+    ensures on { (c : Call P U.View) → c.shape ≡ shape.now → c.start ≡ E.start
+        → IsTakeOn P.table P.drops U.rule c seat.old out.old state
+        → IsTakeOn P.table P.drops U.rule c seat.new out.new result }
 {
+    P::calls();
     loop {
-        match state {
-            After::Next(phase) if is_of_kind(&phase) => {
-                state = take_step::<U, E>(words, shape, seat, out, phase);
-            }
-            _ => return state,
+        let phase = match state {
+            After::Next(phase) => phase,
+            After::Done(answer) => return After::Done(answer),
+        };
+        if !is_of_kind(&phase) {
+            return After::Next(phase);
         }
+        state = take_step::<P, U, E>(words, shape, seat, out, phase);
     }
 }
 
 // One step of a take.
 #[inline(always)]
-fn take_step<U: MachineRule, E: Call>(
+fn take_step<P: CallPhase, U: MachineRule<P>, E: Call>(
     words: &Words<U>,
     shape: &Shape,
     seat: &mut WordSeat<U>,
     out: &mut [u64],
-    phase: Phase,
-) -> After
-    requires machine { IsMachines U.holds U.grid_of U.view_of U.Sits U.begins U.moves_to U.Tells }
+    phase: P,
+) -> After<P>
     requires words { words.now.id.words ≡ word_count shape.now }
     requires own { seat.old.id ≡ words.now.id }
-    requires at { (old : Sitting U.View) × (out_old : List ℕ) × IsTakeAt U.grid_of U.view_of U.Sits U.begins U.moves_to U.Tells shape.now E.start old seat.old out_old out.old phase }
+    requires at { (c : Call P U.View) × (c.shape ≡ shape.now) × (c.start ≡ E.start)
+        × IsTakeAt P.table P.drops U.rule c seat.old out.old phase }
     ensures same { seat.new.id ≡ seat.old.id }
-    ensures on { (old : Sitting U.View) (out_old : List ℕ) → IsTakeAt U.grid_of U.view_of U.Sits U.begins U.moves_to U.Tells shape.now E.start old seat.old out_old out.old phase → IsTakeOn U.grid_of U.view_of U.Sits U.begins U.moves_to U.Tells shape.now E.start old seat.new out_old out.new result }
-    ensures falls { steps_left shape.now result < rank shape.now phase }
+    ensures on { (c : Call P U.View) → c.shape ≡ shape.now → c.start ≡ E.start
+        → IsTakeAt P.table P.drops U.rule c seat.old out.old phase
+        → IsTakeOn P.table P.drops U.rule c seat.new out.new result }
+    ensures falls { steps_left P.table shape.now result < P.table.rank shape.now phase }
 {
-    let op = want(shape, &phase, out);
-    let found = operate::<U, NextStep<E>>(words, seat, &op);
+    P::calls();
+    U::runs();
+    let op = phase.want(shape, out);
+    let found = operate::<U, NextStep<P, E>>(words, seat, &op);
     keep_read(&phase, found, out);
-    after(shape, &phase, found)
+    phase.after(shape, found)
 }
 
 // Keeps a word of the entry that a take reads.
 #[inline(always)]
-fn keep_read(phase: &Phase, found: u64, out: &mut [u64])
-    requires { ReadsWithin phase.now (length out.old) }
-    ensures { out.new ≡ out_after phase.now out.old found }
+fn keep_read<P: CallPhase>(phase: &P, found: u64, out: &mut [u64])
+    requires { IsWordWithin (P.table.reading phase.now) (length out.old) }
+    ensures { out.new ≡ out_after (P.table.reading phase.now) out.old found }
 {
-    match *phase {
-        Phase::Take(TakePhase::Read { next, .. }) => out[next as usize] = found,
-        _ => {}
+    if let Some(next) = phase.word_read() {
+        out[next as usize] = found;
     }
 }

@@ -2,7 +2,7 @@
 ghost use Rattle.std.specs.Prelude.{◌≡◌, ◌+◌, ◌<◌, ◌≤◌, ◌++◌, length};
 ghost use Rattle.cursor_word.specs.Cursor.{place_span};
 ghost use Rattle.cursor_word.specs.Layout.{word_count};
-ghost use Rattle.bbq_core.specs.Gathered.{entry_at, left_in};
+ghost use Rattle.call_laws.specs.Left.{entry_at, left_in};
 
 use cursor_word::{Cursor, Shape, entry_word};
 use rail::{Batch, Entry, Placed};
@@ -13,9 +13,10 @@ pub fn read_left(stopped: &Stopped, shape: &Shape, from: u64, count: u64, left: 
     requires words { length stopped.now ≡ word_count shape.now }
     requires places { from + count ≤ place_span shape.now }
     requires room { count ≤ left.old.spare }
-    ensures items { left.new.items ≡ left.old.items ++ left_in shape.now stopped.now from (from + count) }
+    ensures items { left.new.items ≡ left.old.items
+        ++ left_in shape.now stopped.now from (from + count) }
 {
-    let _size = shape.size();
+    let _blocks = shape.blocks();
     for place in from..from + count {
         left.push(Placed {
             place,
@@ -26,7 +27,7 @@ pub fn read_left(stopped: &Stopped, shape: &Shape, from: u64, count: u64, left: 
 
 fn read_entry(stopped: &Stopped, shape: &Shape, place: u64) -> Entry
     requires words { length stopped.now ≡ word_count shape.now }
-    requires place { place ≤ place_span shape.now }
+    requires place { place < place_span shape.now }
     ensures { result ≡ entry_at shape.now stopped.now place }
 {
     let width = shape.width();

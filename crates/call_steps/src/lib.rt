@@ -1,13 +1,16 @@
-//! How a call of a queue becomes steps: one step of any kind on shared words, and the loop that runs a put and a take.
+//! How a call of a queue becomes steps: one step of any kind on shared words, and the loop that
+//! runs a put and a take of any machine.
 #![tactic(auto)]
 
 mod calls;
+mod counts;
 mod left;
 mod operation;
 mod rule;
 mod start;
 
 pub use calls::{run_put, run_take};
+pub use counts::{puts_after, takes_after};
 pub use left::read_left;
 pub use operation::operate;
 pub use rule::{Call, MachineRule, NextStep};

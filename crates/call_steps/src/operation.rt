@@ -1,10 +1,10 @@
 //! One step of any kind.
 ghost use Rattle.std.specs.Prelude.{◌≡◌, ◌<◌, ◌++◌, [], ◌∷◌};
 ghost use Rattle.step_log.specs.Log.{Keeps};
-ghost use Rattle.bbq_core.specs.Machine.{index, moved};
-ghost use Rattle.call_steps.specs.Steps.{logged, value_of};
+ghost use Rattle.machine.specs.Ops.{index, moved};
+ghost use Rattle.call_steps.specs.Rule.{logged, value_of};
 
-use bbq_core::Op;
+use machine::Op;
 use step_log::{StepRule, Told, WordSeat, Words};
 
 /// Does the step, and answers the value that it found, or of a store the value that it wrote.
@@ -12,8 +12,13 @@ use step_log::{StepRule, Told, WordSeat, Words};
 pub fn operate<U: StepRule, T: Told<U>>(words: &Words<U>, seat: &mut WordSeat<U>, op: &Op) -> u64
     requires own { seat.old.id ≡ words.now.id }
     requires index { index op.now < words.now.id.words }
-    requires rule { Keeps (U.holds words.now.key) seat.old.view (index op.now) (moved op.now) (λ n. T.then seat.old.view (logged op.now n)) }
-    ensures log { seat.new ≡ record { id = seat.old.id; view = seat.new.view; log = seat.old.log ++ logged op.now result ∷ [] } }
+    requires rule { Keeps (U.holds words.now.key) seat.old.view (index op.now) (moved op.now)
+        (λ n. T.then seat.old.view (logged op.now n)) }
+    ensures log { seat.new ≡ record {
+      id = seat.old.id;
+      view = seat.new.view;
+      log = seat.old.log ++ logged op.now result ∷ [];
+    } }
     ensures told { T.then seat.old.view (logged op.now result) seat.new.view }
     ensures value { result ≡ value_of (logged op.now result) }
 {

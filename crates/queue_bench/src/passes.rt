@@ -1,7 +1,7 @@
 //! Entries through one `RetryRail` by several threads: every seat but the last puts, and the last takes.
 ghost use Rattle.std.specs.Prelude.{◌≡◌, ◌+◌, ◌<◌, ◌≤◌, All, length};
 ghost use Rattle.rail.specs.Rail.{most_puts};
-ghost use Rattle.retry_rail.specs.Retry.{IsFresh, IsSeatOf};
+ghost use Rattle.call_steps.specs.Queue.{IsFresh, IsSeatOf};
 ghost use denote.Param.Send.{IsSync};
 
 use crate::pairs::entry_of;

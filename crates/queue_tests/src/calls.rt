@@ -41,9 +41,15 @@ pub fn ended<Q: Rail>(
     let Ok(done) = rail.close(alloc, seats) else {
         return Err(AllocError);
     };
+    let left = left_of::<Q>(alloc, &done)?;
+    Ok((Q::accepted(&done), left))
+}
+
+/// The places that are left in a closed queue, with the first word of each.
+pub fn left_of<Q: Rail>(alloc: Global, done: &Q::Done) -> Result<Vec<(u64, u64)>, AllocError> {
     let mut left = Vec::new(alloc);
-    for item in Q::left(&done).as_slice() {
+    for item in Q::left(done).as_slice() {
         left.push((item.place, item.words.words()[0]))?;
     }
-    Ok((Q::accepted(&done), left))
+    Ok(left)
 }

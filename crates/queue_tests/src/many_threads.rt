@@ -1,12 +1,15 @@
 //! The queue for many threads, by one of them and by four.
 ghost use Rattle.std.specs.Prelude.{◌≡◌, ℕ, ◌<◌, length, map, slice_index_or};
 ghost use Rattle.std.specs.List.{All};
-ghost use Rattle.retry_rail.specs.Retry.{IsSeatOf, Seated};
+ghost use Rattle.bbq_core.specs.declared.phase.Phase.{Phase};
+ghost use Rattle.call_steps.specs.Queue.{IsSeatOf, Seated};
 
+use crate::calls::left_of;
 use cursor_word::{Cursor, Shape};
 use rail::{Answer, Put, Rail, Take};
 use retry_rail::{RetryRail, RetrySeat};
 use std::alloc::{AllocError, Global};
+use std::process::Abort;
 use std::sync::atomic::{AtomicU64, Ordering};
 use std::test::Fail;
 use std::thread;
@@ -23,7 +26,7 @@ fn answer_of(queue: &RetryRail, seats: &mut [RetrySeat], word: Option<u64>) -> A
     requires own { All (IsSeatOf queue.now) seats.old }
     requires width { queue.now.shape.width ≡ 1 }
     ensures own { All (IsSeatOf queue.now) seats.new }
-    ensures numbers { map (λ (s : Seated). s.number) seats.new ≡ map (λ (s : Seated). s.number) seats.old }
+    ensures numbers { map (λ (s : Seated Phase). s.number) seats.new ≡ map (λ (s : Seated Phase). s.number) seats.old }
 {
     let seat = &mut seats[0];
     match word {
@@ -39,12 +42,31 @@ fn full(head: u64, block: u64, offset: u64) -> Answer {
     })
 }
 
-#[test]
-fn one_of_two_seats_fills_and_empties(rt: HostRuntime) -> Result<(), Fail> {
+// The first of two seats does these calls, and the queue is closed.
+fn answers_so(
+    rt: &impl Abort,
+    alloc: Global,
+    calls: &[(Option<u64>, Answer)],
+    accepted: u64,
+    left: &[(u64, u64)],
+) -> Result<(), Fail> {
     let shape = Shape::new(2, 2, 1, 2)?;
-    let (queue, mut seats) = RetryRail::make(rt.alloc(), shape)?;
-    for (word, want) in [
-        (None, Answer::Take(Take::Empty { place: 0 })),
+    let (queue, mut seats) = RetryRail::make(alloc, shape)?;
+    for (word, want) in calls {
+        assert_eq!(rt; answer_of(&queue, seats.as_mut_slice(), *word), *want);
+    }
+    let Ok(done) = queue.close(alloc, seats) else {
+        panic!(rt; "the queue wasn't closed");
+    };
+    assert_eq!(rt; RetryRail::accepted(&done), accepted);
+    let found = left_of::<RetryRail>(alloc, &done)?;
+    assert_eq!(rt; found.as_slice(), left);
+    Ok(())
+}
+
+#[test]
+fn one_of_two_seats_fills_the_queue_and_closes_it(rt: HostRuntime) -> Result<(), Fail> {
+    let calls = [
         (Some(10), Answer::Put(Put::Ok(0))),
         (Some(11), Answer::Put(Put::Ok(1))),
         (Some(12), Answer::Put(Put::Ok(2))),
@@ -54,15 +76,24 @@ fn one_of_two_seats_fills_and_empties(rt: HostRuntime) -> Result<(), Fail> {
         (Some(14), full(3, 2, 1)),
         (None, Answer::Take(Take::Ok(1))),
         (Some(14), Answer::Put(Put::Ok(4))),
-    ] {
-        assert_eq!(rt; answer_of(&queue, seats.as_mut_slice(), word), want);
-    }
-    let Ok(done) = queue.close(rt.alloc(), seats) else {
-        panic!(rt; "the queue wasn't closed");
-    };
-    assert_eq!(rt; RetryRail::accepted(&done), 5);
-    assert_eq!(rt; RetryRail::left(&done).len(), 3);
-    Ok(())
+    ];
+    let left = [(2, 12), (3, 13), (4, 14)];
+    answers_so(&rt, rt.alloc(), calls.as_slice(), 5, left.as_slice())
+}
+
+#[test]
+fn takes_of_one_of_two_seats_end_at_the_next_place(rt: HostRuntime) -> Result<(), Fail> {
+    let calls = [
+        (None, Answer::Take(Take::Empty { place: 0 })),
+        (Some(10), Answer::Put(Put::Ok(0))),
+        (Some(11), Answer::Put(Put::Ok(1))),
+        (Some(12), Answer::Put(Put::Ok(2))),
+        (None, Answer::Take(Take::Ok(0))),
+        (None, Answer::Take(Take::Ok(1))),
+        (None, Answer::Take(Take::Ok(2))),
+        (None, Answer::Take(Take::Empty { place: 3 })),
+    ];
+    answers_so(&rt, rt.alloc(), calls.as_slice(), 3, &[])
 }
 
 // How many calls were done, found the queue full or empty, and found it busy.
@@ -237,7 +268,7 @@ fn run_each<R: Threads + Sync>(
     requires threads { 0 < case.now.threads }
     ensures own { All (IsSeatOf queue.now) seats.new }
     ensures long { length seats.new ≡ length seats.old }
-    ensures numbers { (k : ℕ) (d : Seated) → k < length seats.old → (slice_index_or seats.new k d).number ≡ (slice_index_or seats.old k d).number }
+    ensures numbers { (k : ℕ) (d : Seated Phase) → k < length seats.old → (slice_index_or seats.new k d).number ≡ (slice_index_or seats.old k d).number }
 {
     thread::for_each_mut(
         rt,
@@ -261,7 +292,7 @@ fn run_all<R: Threads + Sync>(
     requires width { queue.now.shape.width ≡ 2 }
     requires threads { 0 < case.now.threads }
     ensures own { All (IsSeatOf queue.now) seats.new }
-    ensures numbers { map (λ (s : Seated). s.number) seats.new ≡ map (λ (s : Seated). s.number) seats.old }
+    ensures numbers { map (λ (s : Seated Phase). s.number) seats.new ≡ map (λ (s : Seated Phase). s.number) seats.old }
 {
     run_each(rt, queue, seats, marks, case);
 }

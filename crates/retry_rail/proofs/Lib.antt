@@ -1,9 +1,1 @@
-pub mod Permuted
-pub mod Parted
-pub mod Held
-pub mod Gathered
-pub mod Starts
-pub mod Stepped
-pub mod Machine
-pub mod Promised
 pub mod Settled

@@ -1,4 +1,1 @@
-pub mod Holding
-pub mod Retry
-pub mod Machine
 pub mod Closed

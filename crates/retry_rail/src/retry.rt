@@ -1,45 +1,43 @@
 //! The queue.
-ghost use Rattle.std.specs.Prelude.{◌≡◌, ℕ, ◌+◌, ◌-◌, ◌<◌, ◌≤◌, List, [], ◌∷◌, ◌++◌, Some, IfErr, IfOk, IsPermutation, false, true, flat_map, length, map};
+ghost use Rattle.std.specs.Prelude.{◌≡◌, ℕ, ◌+◌, ◌-◌, ◌^◌, ◌<◌, ◌≤◌, List, [], Some, IfErr, IfOk, IsPermutation, false, true, flat_map, length, map, min};
 ghost use Rattle.std.specs.List.{All};
+ghost use Rattle.cursor_word.specs.Cursor.{most_puts};
 ghost use Rattle.rail.specs.Items.{IsRising, places};
 ghost use Rattle.rail.specs.Outcome.{DropOutcome, IsAccepted, RetryOutcome, numbers_below};
-ghost use Rattle.rail.specs.Rail.{Puts, Takes, most_puts};
+ghost use Rattle.rail.specs.Rail.{Puts, Takes};
 ghost use Rattle.rail.specs.declared.answer.Answer.TheVariants as answer;
 ghost use Rattle.step_log.specs.declared.step.Taken.{Taken};
-ghost use Rattle.bbq_core.specs.PutSteps.{first_put};
-ghost use Rattle.bbq_core.specs.TakeSteps.{first_take};
+ghost use Rattle.bbq_core.specs.Table.{table};
+ghost use Rattle.bbq_core.specs.declared.phase.Phase.{Phase};
 ghost use Rattle.call_steps.specs.Call.{TookSteps};
-ghost use Rattle.call_steps.specs.Queue.{Queue};
-ghost use Rattle.retry_rail.specs.Retry.{IsFresh, IsSeatOf, Seated};
-ghost use Rattle.retry_rail.specs.Closed.{made_by_all, taken_by_all};
+ghost use Rattle.call_steps.specs.Queue.{IsFresh, IsSeatOf, Queue, Seated};
+ghost use Rattle.shared_seats.specs.Seats.{made_by_all, taken_by_all};
 
-use crate::rule::Holdings;
-use crate::seats::{RetrySeat, deal, gather, totals};
-use call_steps::{read_left, start_words};
+use bbq_core::{Phase, first_take};
+use call_steps::read_left;
 use cursor_word::Shape;
 use rail::{Batch, Put, Rail, Refused, Take};
+use shared_seats::{SharedQueue, SharedSeat, totals};
 use std::alloc::{AllocError, Global};
 use std::marker::Model;
 use std::snapshot::Snapshot;
-use step_log::Words;
 
-/// A queue that refuses entries when it is full. Each of its seats may be used from a thread of its own.
+/// The token with which one caller puts and takes.
+pub type RetrySeat = SharedSeat<Phase>;
+
+/// A queue that refuses entries when it is full. Each of its seats may be used from a thread of its
+/// own.
 #[derive(Drop)]
 pub struct RetryRail {
-    words: Words<Holdings>,
-    shape: Shape,
+    queue: SharedQueue<Phase>,
 }
 
 impl Model for RetryRail {
-    ghost use Rattle.std.specs.Prelude.{◌≡◌};
-    ghost use Rattle.cursor_word.specs.Layout.{word_count};
     ghost use Rattle.call_steps.specs.Queue.{Queue};
 
     ghost Value = { Queue };
 
-    ghost view = { λ q. record { id = q.words.id; shape = q.words.key } };
-
-    ghost invariant = { λ q. (q.words.key ≡ q.shape) × (q.words.id.words ≡ word_count q.shape) };
+    ghost view = { λ r. r.queue };
 }
 
 /// What a closed `RetryRail` had.
@@ -53,7 +51,9 @@ pub struct RetryDone {
 
 impl Model for RetryDone {
     ghost use Rattle.std.specs.Prelude.{◌≡◌, length};
-    ghost use Rattle.retry_rail.specs.Closed.{Closed, closed, made_by_all};
+    ghost use Rattle.call_steps.specs.Queue.{Closed};
+    ghost use Rattle.shared_seats.specs.Seats.{made_by_all};
+    ghost use Rattle.retry_rail.specs.Closed.{closed};
 
     ghost Value = { Closed };
 
@@ -66,22 +66,20 @@ impl RetryRail {
     /// A queue of this shape, and all its seats. None of them has made or taken anything.
     pub fn make(alloc: Global, shape: Shape) -> Result<(RetryRail, Vec<RetrySeat>), AllocError>
         ensures shape { IfOk result (λ r. r.0.shape ≡ shape) }
-        ensures numbers { IfOk result (λ r. map (λ s. s.number) r.1.items ≡ numbers_below shape.seats) }
+        ensures numbers { IfOk result (λ r. map (λ s. s.number) r.1.items
+            ≡ numbers_below shape.seats) }
         ensures fresh { IfOk result (λ r. All (IsFresh r.0) r.1.items) }
     {
-        let _blocks = shape.blocks();
-        let start = start_words(alloc, &shape)?;
-        let (words, first) = Words::<Holdings>::make(alloc, start, shape)?;
-        let seats = deal(alloc, &words, first, &shape)?;
-        Ok((RetryRail { words, shape }, seats))
+        let (queue, seats) = SharedQueue::<Phase>::make(alloc, shape)?;
+        Ok((RetryRail { queue }, seats))
     }
 
     // Stops all steps, and reads what is left.
     fn finish(self, seats: Vec<RetrySeat>, puts: u64, takes: u64, mut left: Batch) -> RetryDone
         requires seats { All (IsSeatOf self) seats.items }
         requires all { length seats.items ≡ self.shape.seats }
-        requires puts { puts ≡ length (made_by_all seats.items) }
-        requires takes { takes ≡ length (taken_by_all seats.items) }
+        requires puts { puts ≡ min (length (made_by_all seats.items)) (2 ^ 64 - 1) }
+        requires takes { takes ≡ min (length (taken_by_all seats.items)) (2 ^ 64 - 1) }
         requires empty { left.items ≡ [] }
         requires room { puts - takes ≤ left.spare }
         ensures shape { result.shape ≡ self.shape }
@@ -91,10 +89,8 @@ impl RetryRail {
         ensures retry { RetryOutcome result.accepted result.taken result.left }
     {
         let before = Snapshot::of(&seats);
-        let _blocks = self.shape.blocks();
-        let RetryRail { words, shape } = self;
-        let all = gather(&words, seats);
-        let stopped = words.close(all);
+        let shape = self.queue.shape();
+        let stopped = self.queue.stop(seats);
         read_left(
             &stopped,
             &shape,
@@ -113,17 +109,18 @@ impl RetryRail {
 
 impl Rail for RetryRail {
     ghost use Rattle.std.specs.Prelude.{◌≡◌, false};
-    ghost use Rattle.retry_rail.specs.Retry.{IsSeatOf};
+    ghost use Rattle.cursor_word.specs.Shape.{most_seats};
+    ghost use Rattle.call_steps.specs.Queue.{IsSeatOf, told_of};
 
     type Seat = RetrySeat;
 
     type Done = RetryDone;
 
-    const MOST_SEATS: u64 = 256;
+    const MOST_SEATS: u64 = cursor_word::MOST_SEATS;
 
     const DROPS: bool = false;
 
-    ghost MOST_SEATS = { 256 };
+    ghost MOST_SEATS = { most_seats };
 
     ghost DROPS = { false };
 
@@ -139,7 +136,7 @@ impl Rail for RetryRail {
 
     ghost taken = { λ s. s.view.taken };
 
-    ghost told = { λ s. record { found = s.view.trail; answer = s.view.answer } };
+    ghost told = { told_of };
 
     ghost done_shape = { λ d. d.shape };
 
@@ -150,24 +147,26 @@ impl Rail for RetryRail {
     ghost done_left = { λ d. d.left };
 
     fn shape(&self) -> Shape {
-        let _blocks = self.shape.blocks();
-        self.shape
+        self.queue.shape()
     }
 
     /// Puts an entry, by the machine's steps and no other.
     fn put(&self, seat: &mut RetrySeat, entry: &[u64]) -> Put
         requires seat { IsSeatOf self.now seat.old }
         requires width { length entry.now ≡ self.now.shape.width }
-        requires room { length seat.old.view.made < most_puts }
+        requires room { length seat.old.view.made < most_puts self.now.shape }
         ensures seat { (rail : Queue) → IsSeatOf rail seat.old → IsSeatOf rail seat.new }
         ensures takes { (rail : Queue) → IsSeatOf rail seat.old → IsSeatOf rail seat.new }
         ensures number { seat.new.number ≡ seat.old.number }
         ensures taken { seat.new.view.taken ≡ seat.old.view.taken }
-        ensures answer { Puts self.now.shape false entry.now seat.old.view.made seat.new.view.made seat.new.view.trail result }
+        ensures answer { Puts self.now.shape false entry.now seat.old.view.made seat.new.view.made
+            seat.new.view.trail result }
         ensures told { seat.new.view.answer ≡ Some (answer.Put result) }
-        ensures steps { (steps : List Taken) × TookSteps self.now.shape entry.now first_put steps (answer.Put result) seat.new.view.trail seat.old.log seat.new.log }
+        ensures steps { (steps : List Taken)
+            × TookSteps table self.now.shape entry.now table.first_put steps (answer.Put result)
+            seat.new.view.trail seat.old.log seat.new.log }
     {
-        seat.put(&self.words, &self.shape, entry)
+        self.queue.put(seat, entry)
     }
 
     /// Takes an entry, by the machine's steps and no other.
@@ -178,11 +177,15 @@ impl Rail for RetryRail {
         ensures puts { (rail : Queue) → IsSeatOf rail seat.old → IsSeatOf rail seat.new }
         ensures number { seat.new.number ≡ seat.old.number }
         ensures made { seat.new.view.made ≡ seat.old.view.made }
-        ensures answer { Takes self.now.shape false seat.new.view.made out.old out.new seat.old.view.taken seat.new.view.taken seat.new.view.trail result }
+        ensures answer { Takes self.now.shape false seat.new.view.made out.old out.new
+            seat.old.view.taken seat.new.view.taken seat.new.view.trail result }
         ensures told { seat.new.view.answer ≡ Some (answer.Take result) }
-        ensures steps { (steps : List Taken) × TookSteps self.now.shape [] first_take steps (answer.Take result) seat.new.view.trail seat.old.log seat.new.log }
+        ensures steps { (steps : List Taken)
+            × TookSteps table self.now.shape []
+            (table.first_take self.now.shape seat.old.view.taken) steps (answer.Take result)
+            seat.new.view.trail seat.old.log seat.new.log }
     {
-        seat.take(&self.words, &self.shape, out)
+        self.queue.take(seat, first_take(), out)
     }
 
     fn close(
@@ -191,16 +194,23 @@ impl Rail for RetryRail {
         seats: Vec<Self::Seat>,
     ) -> Result<Self::Done, Refused<Self, Self::Seat>>
         requires seats { All (IsSeatOf self) seats.items }
-        requires all { IsPermutation (map (λ (s : Seated). s.number) seats.items) (numbers_below self.shape.seats) }
+        requires all { IsPermutation (map (λ (s : Seated Phase). s.number) seats.items)
+            (numbers_below self.shape.seats) }
         ensures shape { IfOk result (λ done. done.shape ≡ self.shape) }
-        ensures accepted { IfOk result (λ done. IsAccepted (flat_map (λ (s : Seated). s.view.made) seats.items) done.accepted) }
-        ensures taken { IfOk result (λ done. IsPermutation (flat_map (λ (s : Seated). s.view.taken) seats.items) done.taken) }
+        ensures accepted { IfOk result
+            (λ done. IsAccepted (flat_map (λ (s : Seated Phase). s.view.made) seats.items)
+            done.accepted) }
+        ensures taken { IfOk result
+            (λ done. IsPermutation (flat_map (λ (s : Seated Phase). s.view.taken) seats.items)
+            done.taken) }
         ensures order { IfOk result (λ done. IsRising (places done.taken)) }
-        ensures retry { false ≡ false → IfOk result (λ done. RetryOutcome done.accepted done.taken done.left) }
-        ensures drop { false ≡ true → IfOk result (λ done. DropOutcome done.shape done.accepted done.taken done.left) }
-        ensures refused { IfErr result (λ refused. (refused.rail ≡ self) × (refused.seats.items ≡ seats.items)) }
+        ensures retry { false ≡ false
+            → IfOk result (λ done. RetryOutcome done.accepted done.taken done.left) }
+        ensures drop { false ≡ true
+            → IfOk result (λ done. DropOutcome done.shape done.accepted done.taken done.left) }
+        ensures refused { IfErr result (λ refused. (refused.rail ≡ self)
+            × (refused.seats.items ≡ seats.items)) }
     {
-        let _blocks = self.shape.blocks();
         let (puts, takes) = totals(seats.as_slice());
         match Batch::with_room(alloc, puts.saturating_sub(takes) as usize) {
             Ok(left) => Ok(self.finish(seats, puts, takes, left)),

@@ -1,8 +1,8 @@
 //! The rule of the words: the one seat knows them, and stands alone.
-ghost use Rattle.std.specs.Prelude.{ℕ};
-ghost use Rattle.solo_rail.specs.Holding.{IsHeld, TellsAlone, begins_call, does_step, first_holding, no_holding};
+ghost use Rattle.solo_rail.specs.Holding.{IsHeld, alone_rule, first_holding, no_holding};
 
 use crate::holding::Holding;
+use bbq_core::Phase;
 use call_steps::MachineRule;
 use cursor_word::Shape;
 use step_log::StepRule;
@@ -22,16 +22,8 @@ impl StepRule for Alone {
     ghost spent = { no_holding };
 }
 
-impl MachineRule for Alone {
-    ghost grid_of = { λ h. h.shape };
+impl MachineRule<Phase> for Alone {
+    ghost rule = { alone_rule };
 
-    ghost view_of = { λ h. h.view };
-
-    ghost Sits = { λ _. Unit {0} };
-
-    ghost begins = { begins_call };
-
-    ghost moves_to = { does_step };
-
-    ghost Tells = { TellsAlone };
+    fn runs() {}
 }

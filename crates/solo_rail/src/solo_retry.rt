@@ -1,22 +1,22 @@
 //! The queue that refuses when full, for one seat.
-ghost use Rattle.std.specs.Prelude.{◌≡◌, ℕ, ◌<◌, ◌≤◌, ◌+◌, ◌-◌, List, [], ◌∷◌, ◌++◌, IfErr, IfOk, IfSome, IsPermutation, Some, false, flat_map, length, map, slice_get, true};
+ghost use Rattle.std.specs.Prelude.{◌≡◌, ℕ, ◌<◌, ◌≤◌, ◌-◌, List, [], ◌∷◌, IfErr, IfOk, IfSome, IsPermutation, Some, false, flat_map, length, map, slice_get, true};
 ghost use Rattle.std.specs.List.{All};
-ghost use Rattle.cursor_word.specs.Shape.{Grid};
-ghost use Rattle.cursor_word.specs.Cursor.{place_span};
+ghost use Rattle.cursor_word.specs.Cursor.{most_puts};
 ghost use Rattle.rail.specs.Items.{IsRising, places};
 ghost use Rattle.rail.specs.Outcome.{DropOutcome, IsAccepted, RetryOutcome, numbers_below};
-ghost use Rattle.rail.specs.Rail.{Puts, Takes, most_puts};
+ghost use Rattle.rail.specs.Rail.{Puts, Takes};
 ghost use Rattle.rail.specs.Sequential.{RetryPut, retry_take};
-ghost use Rattle.rail.specs.declared.answer.Answer.TheVariants as Answer;
+ghost use Rattle.rail.specs.declared.answer.Answer.TheVariants as answer;
 ghost use Rattle.step_log.specs.declared.step.Taken.{Taken};
-ghost use Rattle.bbq_core.specs.PutSteps.{first_put};
-ghost use Rattle.bbq_core.specs.TakeSteps.{first_take};
+ghost use Rattle.bbq_core.specs.Table.{table};
+ghost use Rattle.bbq_core.specs.declared.phase.Phase.{Phase};
 ghost use Rattle.call_steps.specs.Call.{TookSteps};
-ghost use Rattle.call_steps.specs.Queue.{Queue};
-ghost use Rattle.solo_rail.specs.Solo.{IsFresh, IsSeatOf, Seated, number_of, puts_in, takes_in, told_of};
+ghost use Rattle.call_steps.specs.Queue.{IsFresh, IsSeatOf, Queue, Seated};
+ghost use Rattle.solo_rail.specs.Solo.{number_of};
 
 use crate::rule::Alone;
-use call_steps::{read_left, run_put, run_take, start_words};
+use bbq_core::{Phase, first_take};
+use call_steps::{puts_after, read_left, run_put, run_take, start_words, takes_after};
 use cursor_word::Shape;
 use rail::{Batch, Put, Rail, Refused, Take};
 use std::alloc::{AllocError, Global};
@@ -41,7 +41,8 @@ impl Model for SoloRetry {
 
     ghost view = { λ q. record { id = q.words.id; shape = q.shape } };
 
-    ghost invariant = { λ q. (q.words.key ≡ q.shape) × (q.words.id.words ≡ word_count q.shape) × (q.shape.seats ≡ 1) };
+    ghost invariant = { λ q. (q.words.key ≡ q.shape) × (q.words.id.words ≡ word_count q.shape)
+        × (q.shape.seats ≡ 1) };
 }
 
 /// The one seat of a `SoloRetry`.
@@ -53,14 +54,23 @@ pub struct SoloRetrySeat {
 }
 
 impl Model for SoloRetrySeat {
-    ghost use Rattle.std.specs.Prelude.{◌≡◌, None, length};
-    ghost use Rattle.solo_rail.specs.Solo.{Seated};
+    ghost use Rattle.std.specs.Prelude.{◌≡◌, ◌-◌, ◌^◌, None, length, min};
+    ghost use Rattle.bbq_core.specs.declared.phase.Phase.{Phase};
+    ghost use Rattle.call_steps.specs.Queue.{Seated};
 
-    ghost Value = { Seated };
+    ghost Value = { Seated Phase };
 
-    ghost view = { λ s. record { of = record { id = s.seat.id; shape = s.seat.view.shape }; view = s.seat.view.view; log = s.seat.log } };
+    ghost view = { λ s.
+        record {
+          of = record { id = s.seat.id; shape = s.seat.view.shape };
+          number = 0;
+          view = s.seat.view.view;
+          log = s.seat.log;
+        } };
 
-    ghost invariant = { λ s. (s.seat.view.view.phase ≡ None) × (s.puts ≡ length s.seat.view.view.made) × (s.takes ≡ length s.seat.view.view.taken) };
+    ghost invariant = { λ s. (s.seat.view.view.phase ≡ None)
+        × (s.puts ≡ length s.seat.view.view.made)
+        × (s.takes ≡ min (length s.seat.view.view.taken) (2 ^ 64 - 1)) };
 }
 
 /// What a closed `SoloRetry` had.
@@ -74,11 +84,17 @@ pub struct SoloRetryDone {
 
 impl Model for SoloRetryDone {
     ghost use Rattle.std.specs.Prelude.{◌≡◌, length};
-    ghost use Rattle.solo_rail.specs.Solo.{Finished};
+    ghost use Rattle.call_steps.specs.Queue.{Closed};
 
-    ghost Value = { Finished };
+    ghost Value = { Closed };
 
-    ghost view = { λ d. record { shape = d.shape; accepted = d.seat.value.view.made; taken = d.seat.value.view.taken; left = d.left.items } };
+    ghost view = { λ d.
+        record {
+          shape = d.shape;
+          accepted = d.seat.value.view.made;
+          taken = d.seat.value.view.taken;
+          left = d.left.items;
+        } };
 
     ghost invariant = { λ d. d.accepted ≡ length d.seat.value.view.made };
 }
@@ -104,7 +120,8 @@ impl SoloRetry {
 
 impl Rail for SoloRetry {
     ghost use Rattle.std.specs.Prelude.{◌≡◌, false};
-    ghost use Rattle.solo_rail.specs.Solo.{IsSeatOf, number_of, told_of};
+    ghost use Rattle.call_steps.specs.Queue.{IsSeatOf, told_of};
+    ghost use Rattle.solo_rail.specs.Solo.{number_of};
 
     type Seat = SoloRetrySeat;
 
@@ -149,18 +166,28 @@ impl Rail for SoloRetry {
     fn put(&self, seat: &mut SoloRetrySeat, entry: &[u64]) -> Put
         requires seat { IsSeatOf self.now seat.old }
         requires width { length entry.now ≡ self.now.shape.width }
-        requires room { length seat.old.view.made < most_puts }
+        requires room { length seat.old.view.made < most_puts self.now.shape }
         ensures seat { (rail : Queue) → IsSeatOf rail seat.old → IsSeatOf rail seat.new }
         ensures takes { (rail : Queue) → IsSeatOf rail seat.old → IsSeatOf rail seat.new }
         ensures number { number_of seat.new ≡ number_of seat.old }
         ensures taken { seat.new.view.taken ≡ seat.old.view.taken }
-        ensures answer { Puts self.now.shape false entry.now seat.old.view.made seat.new.view.made (told_of seat.new).found result }
-        ensures told { (told_of seat.new).answer ≡ Some (Answer.Put result) }
-        ensures exact { RetryPut self.now.shape (length seat.old.view.made) (length seat.old.view.taken) result }
-        ensures steps { (steps : List Taken) × TookSteps self.now.shape entry.now first_put steps (Answer.Put result) (told_of seat.new).found seat.old.log seat.new.log }
+        ensures answer { Puts self.now.shape false entry.now seat.old.view.made seat.new.view.made
+            seat.new.view.trail result }
+        ensures told { seat.new.view.answer ≡ Some (answer.Put result) }
+        ensures exact { RetryPut self.now.shape (length seat.old.view.made)
+            (length seat.old.view.taken) result }
+        ensures steps { (steps : List Taken)
+            × TookSteps table self.now.shape entry.now table.first_put steps (answer.Put result)
+            seat.new.view.trail seat.old.log seat.new.log }
     {
-        let answer = run_put::<Alone, Brand>(&self.words, &self.shape, &mut seat.seat, entry);
-        count_put(&mut seat.puts, &answer);
+        let _blocks = self.shape.blocks();
+        let answer = run_put::<Phase, Alone, Brand>(
+            &self.words,
+            &self.shape,
+            &mut seat.seat,
+            entry,
+        );
+        seat.puts = puts_after(seat.puts, &answer);
         answer
     }
 
@@ -172,13 +199,24 @@ impl Rail for SoloRetry {
         ensures puts { (rail : Queue) → IsSeatOf rail seat.old → IsSeatOf rail seat.new }
         ensures number { number_of seat.new ≡ number_of seat.old }
         ensures made { seat.new.view.made ≡ seat.old.view.made }
-        ensures answer { Takes self.now.shape false seat.new.view.made out.old out.new seat.old.view.taken seat.new.view.taken (told_of seat.new).found result }
-        ensures told { (told_of seat.new).answer ≡ Some (Answer.Take result) }
-        ensures exact { result ≡ retry_take (length seat.old.view.made) (length seat.old.view.taken) }
-        ensures steps { (steps : List Taken) × TookSteps self.now.shape [] first_take steps (Answer.Take result) (told_of seat.new).found seat.old.log seat.new.log }
+        ensures answer { Takes self.now.shape false seat.new.view.made out.old out.new
+            seat.old.view.taken seat.new.view.taken seat.new.view.trail result }
+        ensures told { seat.new.view.answer ≡ Some (answer.Take result) }
+        ensures exact { result
+            ≡ retry_take (length seat.old.view.made) (length seat.old.view.taken) }
+        ensures steps { (steps : List Taken)
+            × TookSteps table self.now.shape []
+            (table.first_take self.now.shape seat.old.view.taken) steps (answer.Take result)
+            seat.new.view.trail seat.old.log seat.new.log }
     {
-        let answer = run_take::<Alone, Brand>(&self.words, &self.shape, &mut seat.seat, out);
-        count_take(&mut seat.takes, &answer);
+        let answer = run_take::<Phase, Alone, Brand>(
+            &self.words,
+            &self.shape,
+            &mut seat.seat,
+            first_take(),
+            out,
+        );
+        seat.takes = takes_after(seat.takes, &answer);
         answer
     }
 
@@ -190,12 +228,19 @@ impl Rail for SoloRetry {
         requires seats { All (IsSeatOf self) seats.items }
         requires all { IsPermutation (map number_of seats.items) (numbers_below self.shape.seats) }
         ensures shape { IfOk result (λ done. done.shape ≡ self.shape) }
-        ensures accepted { IfOk result (λ done. IsAccepted (flat_map (λ (s : Seated). s.view.made) seats.items) done.accepted) }
-        ensures taken { IfOk result (λ done. IsPermutation (flat_map (λ (s : Seated). s.view.taken) seats.items) done.taken) }
+        ensures accepted { IfOk result
+            (λ done. IsAccepted (flat_map (λ (s : Seated Phase). s.view.made) seats.items)
+            done.accepted) }
+        ensures taken { IfOk result
+            (λ done. IsPermutation (flat_map (λ (s : Seated Phase). s.view.taken) seats.items)
+            done.taken) }
         ensures order { IfOk result (λ done. IsRising (places done.taken)) }
-        ensures retry { false ≡ false → IfOk result (λ done. RetryOutcome done.accepted done.taken done.left) }
-        ensures drop { false ≡ true → IfOk result (λ done. DropOutcome done.shape done.accepted done.taken done.left) }
-        ensures refused { IfErr result (λ refused. (refused.rail ≡ self) × (refused.seats.items ≡ seats.items)) }
+        ensures retry { false ≡ false
+            → IfOk result (λ done. RetryOutcome done.accepted done.taken done.left) }
+        ensures drop { false ≡ true
+            → IfOk result (λ done. DropOutcome done.shape done.accepted done.taken done.left) }
+        ensures refused { IfErr result (λ refused. (refused.rail ≡ self)
+            × (refused.seats.items ≡ seats.items)) }
     {
         let _seats = self.shape.seats();
         let count = left_count(&seats);
@@ -263,7 +308,8 @@ impl SoloRetrySeat {
 
 // How many entries are left by the one seat of a list.
 fn left_count(seats: &[SoloRetrySeat]) -> u64
-    ensures { IfSome (slice_get seats.now 0) (λ seat. result ≡ length seat.view.made - length seat.view.taken) }
+    ensures { IfSome (slice_get seats.now 0) (λ seat. result
+        ≡ length seat.view.made - length seat.view.taken) }
 {
     match seats.first() {
         Some(seat) => seat.left_count(),
@@ -280,25 +326,5 @@ fn only(seats: Vec<SoloRetrySeat>) -> SoloRetrySeat
     match seats.pop() {
         Some(seat) => seat,
         None => unreachable!(),
-    }
-}
-
-fn count_put(puts: &mut u64, answer: &Put)
-    requires { puts.old < most_puts }
-    ensures { puts.new ≡ puts.old + puts_in answer.now }
-{
-    match answer {
-        Put::Ok(_) => *puts += 1,
-        _ => {}
-    }
-}
-
-fn count_take(takes: &mut u64, answer: &Take)
-    requires { takes.old < place_span }
-    ensures { takes.new ≡ takes.old + takes_in answer.now }
-{
-    match answer {
-        Take::Ok(_) => *takes += 1,
-        _ => {}
     }
 }

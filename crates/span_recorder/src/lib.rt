@@ -2,7 +2,7 @@
 #![tactic(auto)]
 
 ghost use Rattle.std.specs.Prelude.{◌≡◌, ◌<◌, ◌≤◌, true, length, OnOk, OnErr, IsOk};
-ghost use Rattle.rail.specs.Rail.{most_puts};
+ghost use Rattle.cursor_word.specs.Cursor.{most_puts};
 ghost use Rattle.span_words.specs.Span.{IsTid, spelling};
 ghost use Rattle.span_recorder.specs.Gain.{GainsEntry, GainAlike};
 
@@ -24,7 +24,7 @@ pub fn note_span<R: Rail>(
     requires puts { R.PutsInto rail.now seat.old }
     requires takes { R.TakesFrom rail.now seat.old }
     requires width { (R.shape_of rail.now).width ≡ SPAN_WORDS }
-    requires room { length (R.made seat.old) < most_puts }
+    requires room { length (R.made seat.old) < most_puts (R.shape_of rail.now) }
     requires tid { IsTid event.now.tid }
     ensures puts { (q : R) → R.PutsInto q seat.old → R.PutsInto q seat.new }
     ensures takes { (q : R) → R.TakesFrom q seat.old → R.TakesFrom q seat.new }

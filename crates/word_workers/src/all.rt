@@ -55,6 +55,7 @@ pub fn run_all<X: Threads + Wait + Sync, R: Rail, C: Clock, G: Gate>(
     ensures puts { IfOk result (λ work. (q : R) → All (R.PutsInto q) seats.items → All (R.PutsInto q) work.seats.items) }
     ensures takes { IfOk result (λ work. (q : R) → All (R.TakesFrom q) seats.items → All (R.TakesFrom q) work.seats.items) }
 {
+    let _most = rail.shape().most_puts();
     let mut seats = seats;
     let Some(first) = seats.pop() else {
         unreachable!()

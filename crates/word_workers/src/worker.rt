@@ -1,7 +1,7 @@
 ghost use Rattle.std.specs.Prelude.{◌≡◌, ◌+◌, ◌-◌, ◌<◌, ◌≤◌, ◌^◌, [], ◌∷◌, ◌++◌, true, length, slice_index_or, flat_map, IfOk, OnOk};
 ghost use Rattle.std.specs.List.{All, range_with_len};
 ghost use Rattle.std.specs.FinMap as map_of;
-ghost use Rattle.rail.specs.Rail.{most_puts};
+ghost use Rattle.cursor_word.specs.Cursor.{most_puts};
 ghost use Rattle.span_recorder.specs.Gain.{GainAlike};
 ghost use Rattle.span_words.specs.Span.{duration};
 ghost use Rattle.word_text.specs.Counts.{add_all, total};
@@ -46,7 +46,7 @@ pub fn run_worker<R: Rail, H: Hand, G: Gate>(
     requires puts { R.PutsInto rail.now seat }
     requires takes { R.TakesFrom rail.now seat }
     requires width { (R.shape_of rail.now).width ≡ SPAN_WORDS }
-    requires room { length (R.made seat) < 2 ^ 31 }
+    requires room { length (R.made seat) + length plan.now < most_puts (R.shape_of rail.now) }
     requires inside { AllLieIn texts.now plan.now }
     requires words { length (plan_words plan.now texts.now) < 2 ^ 63 }
     requires numbers { (numbers.old.next ≤ numbers.old.end) × (numbers.old.end ≡ length plan.now) × (numbers.old.end ≤ MOST_PIECES) }
@@ -105,7 +105,7 @@ fn count_noted<R: Rail, H: Hand>(
     requires puts { R.PutsInto rail.now done.old.seat }
     requires takes { R.TakesFrom rail.now done.old.seat }
     requires width { (R.shape_of rail.now).width ≡ SPAN_WORDS }
-    requires room { length (R.made done.old.seat) < most_puts }
+    requires room { length (R.made done.old.seat) < most_puts (R.shape_of rail.now) }
     requires inside { AllLieIn texts.now plan.now }
     requires number { number < length plan.now }
     requires rising { All (λ n. n < number) done.old.drawn }

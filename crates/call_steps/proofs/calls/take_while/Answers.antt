@@ -1,10 +1,18 @@
-use Rattle.std.proofs.Common.{ap, sym, ◌∙◌}
-use Rattle.bbq_core.specs.declared.op.After.TheVariants.{Next}
+use Rattle.std.proofs.Common.{◌∙◌, subst}
+use Rattle.call_steps.specs.Midway.{IsTakeOn}
 use Rattle.call_steps.proofs.Loop.{take_at}
 use Rattle.call_steps.proofs.calls.take_while.Goals as goal
 
 pub take_step-state-requires-clause-at : goal.take_step-state-requires-clause-at
-take_step-state-requires-clause-at g c = let on = c.requires.on in (on.0, on.1, take_at _ _ _ _ _ _ _ _ _ _ _ _ _ _ (c.in-Next.is ∙ ap Next (sym c.in-Next.phase-is)) (c.loop-state.invariant.1 _ _ on.2))
+take_step-state-requires-clause-at g c = let on = c.requires.on in
+    (on.0, on.1, on.2, take_at g.P.Phase.table g.P.CallPhase.drops g.U.MachineRule.rule on.0 _ _ _ _ c.in-Next.is (c.loop-state.invariant.1 on.0 on.1 on.2 on.3))
 
 pub loop-state-preserved : goal.loop-state-preserved
-loop-state-preserved g c = let e = c.take_step-state.ensures in (e.same ∙ c.loop-state.invariant.0, λ old out_old on. e.on old out_old (take_at _ _ _ _ _ _ _ _ _ _ _ _ _ _ (c.in-Next.is ∙ ap Next (sym c.in-Next.phase-is)) (c.loop-state.invariant.1 old out_old on)))
+loop-state-preserved g c = let e = c.take_step-state.ensures in
+    (e.same ∙ c.loop-state.invariant.0, λ call shape start on. e.on call shape start (take_at g.P.Phase.table g.P.CallPhase.drops g.U.MachineRule.rule call _ _ _ _ c.in-Next.is (c.loop-state.invariant.1 call shape start on)))
+
+pub returns-in-Done-clause-on : goal.returns-in-Done-clause-on
+returns-in-Done-clause-on g c = λ call shape start on. subst (IsTakeOn g.P.Phase.table g.P.CallPhase.drops g.U.MachineRule.rule call c.loop-state.seat c.loop-state.out) c.in-Done.is (c.loop-state.invariant.1 call shape start on)
+
+pub returns-then-not-is_of_kind-clause-on : goal.returns-then-not-is_of_kind-clause-on
+returns-then-not-is_of_kind-clause-on g c = λ call shape start on. subst (IsTakeOn g.P.Phase.table g.P.CallPhase.drops g.U.MachineRule.rule call c.loop-state.seat c.loop-state.out) c.in-Next.is (c.loop-state.invariant.1 call shape start on)

@@ -1,5 +1,5 @@
 use Rattle.std.proofs.Common.{◌+◌, ◌≤◌, length}
-use Rattle.retry_rail.specs.Retry.{IsSeatOf}
+use Rattle.call_steps.specs.Queue.{IsSeatOf}
 use Rattle.queue_bench.proofs.passes.put_all.Given as goal
 
 abbrev pub invariant-loop-turn : goal.invariant-loop-turn

@@ -1,4 +1,4 @@
-use Rattle.retry_rail.specs.Retry.{IsSeatOf}
+use Rattle.call_steps.specs.Queue.{IsSeatOf}
 use Rattle.queue_bench.proofs.passes.take_one.Given as goal
 
 abbrev pub invariant-loop : goal.invariant-loop

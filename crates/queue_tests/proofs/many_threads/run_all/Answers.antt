@@ -1,4 +1,4 @@
-use Rattle.retry_rail.proofs.Gathered.{same_numbers}
+use Rattle.shared_seats.proofs.Gathered.{same_numbers}
 use Rattle.queue_tests.proofs.many_threads.run_all.Goals as goal
 
 pub returns-clause-numbers : goal.returns-clause-numbers

@@ -1,5 +1,5 @@
 use Rattle.std.proofs.Common.{◌≡◌}
-use Rattle.retry_rail.specs.Retry.{IsSeatOf}
+use Rattle.call_steps.specs.Queue.{IsSeatOf}
 use Rattle.queue_tests.proofs.many_threads.try_often.Given as goal
 
 abbrev pub invariant-loop-turn : goal.invariant-loop-turn

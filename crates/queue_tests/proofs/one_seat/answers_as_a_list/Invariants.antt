@@ -1,6 +1,6 @@
 use Rattle.std.proofs.Common.{◌≤◌, length}
 use Rattle.rail.specs.ListRail.{IsSeatOf}
-use Rattle.solo_rail.specs.Solo.{IsSeatOf as IsSoloSeatOf}
+use Rattle.call_steps.specs.Queue.{IsSeatOf as IsSoloSeatOf}
 use Rattle.queue_tests.proofs.one_seat.answers_as_a_list.Given as goal
 
 abbrev pub invariant-loop-step : goal.invariant-loop-step

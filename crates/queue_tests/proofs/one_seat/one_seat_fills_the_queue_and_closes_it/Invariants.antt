@@ -1,5 +1,5 @@
 use Rattle.std.proofs.Common.{◌≡◌, ◌≤◌, length}
-use Rattle.solo_rail.specs.Solo.{IsSeatOf}
+use Rattle.call_steps.specs.Queue.{IsSeatOf}
 use Rattle.queue_tests.proofs.one_seat.one_seat_fills_the_queue_and_closes_it.Given as goal
 
 abbrev pub invariant-loop-word : goal.invariant-loop-word

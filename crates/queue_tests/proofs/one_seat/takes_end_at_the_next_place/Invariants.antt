@@ -1,5 +1,5 @@
 use Rattle.std.proofs.Common.{◌≡◌, ◌≤◌, length}
-use Rattle.solo_rail.specs.Solo.{IsSeatOf}
+use Rattle.call_steps.specs.Queue.{IsSeatOf}
 use Rattle.queue_tests.proofs.one_seat.takes_end_at_the_next_place.Given as goal
 
 abbrev pub invariant-loop-word : goal.invariant-loop-word

@@ -1,8 +1,15 @@
-use Rattle.std.proofs.Common.{rules, ◌≡◌, [], ◌∷◌, ◌++◌, sym, ◌∙◌, arith}
+use Rattle.std.proofs.Common.{[], ◌++◌, ◌∙◌, ◌∷◌, ◌≡◌, ap, arith, rules, sym}
+use Rattle.cursor_word.specs.Cursor.{most_puts}
 use Rattle.word_workers.proofs.OneSeat.{all_one, flat_map-one, of_one}
 use Rattle.word_workers.proofs.Ranges.{length-drawn}
 use Rattle.word_workers.proofs.Runs.{batches_more, counts_more, counts_whole, files_together, length-worked, run_ended, run_more, totals_joined}
 use Rattle.word_workers.proofs.all.run_all.Goals as goal
+
+pub run_worker-requires-clause-room : goal.run_worker-requires-clause-room
+run_worker-requires-clause-room g c κs within =
+    let i = c.loop-worker.invariant in
+    let most = ap most_puts c.shape.ensures.shape in
+    omega (arith, i.made, i.within, i.end, c.most_puts-most.ensures.most, c.most_puts-most.ensures.least)
 
 pub joined-requires-clause-room : goal.joined-requires-clause-room
 joined-requires-clause-room g c =

@@ -1,6 +1,6 @@
 use Rattle.std.proofs.Common.{◌∙◌, ap, length, sym}
 use Rattle.std.proofs.lemmas.List.FromFn.{length-map-range_with_len}
-use Rattle.retry_rail.specs.Closed.{item_at, made_by_all}
+use Rattle.shared_seats.specs.Seats.{item_at, made_by_all}
 use Rattle.retry_rail.proofs.retry.RetryRailRail.accepted.Goals as goal
 
 pub returns : goal.returns

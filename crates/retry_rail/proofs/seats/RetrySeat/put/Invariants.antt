@@ -1,5 +1,0 @@
-use Rattle.bbq_core.specs.declared.event.Start.TheVariants as start
-use Rattle.retry_rail.proofs.seats.RetrySeat.put.Given as goal
-
-abbrev pub ghosts-run_put : goal.ghosts-run_put
-ghosts-run_put a = record { start = start.Put a.entry.now }

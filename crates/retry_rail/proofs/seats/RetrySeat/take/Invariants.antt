@@ -1,5 +1,0 @@
-use Rattle.bbq_core.specs.declared.event.Start.TheVariants as start
-use Rattle.retry_rail.proofs.seats.RetrySeat.take.Given as goal
-
-abbrev pub ghosts-run_take : goal.ghosts-run_take
-ghosts-run_take a = record { start = start.Take }

@@ -1,0 +1,138 @@
+//! A queue whose seats may each be used from a thread of its own.
+ghost use Rattle.std.specs.Prelude.{◌≡◌, ℕ, ◌<◌, List, [], Some, IfOk, All, map, length};
+ghost use Rattle.cursor_word.specs.Shape.{IsWithinLimits};
+ghost use Rattle.rail.specs.Outcome.{numbers_below};
+ghost use Rattle.cursor_word.specs.Cursor.{most_puts};
+ghost use Rattle.cursor_word.specs.Layout.{word_count};
+ghost use Rattle.rail.specs.Rail.{Puts, Takes};
+ghost use Rattle.rail.specs.declared.answer.Answer.TheVariants as answer;
+ghost use Rattle.step_log.specs.declared.step.Taken.{Taken};
+ghost use Rattle.call_steps.specs.Call.{TookSteps};
+ghost use Rattle.call_steps.specs.Queue.{IsFresh, IsSeatOf, Queue};
+ghost use Rattle.shared_seats.specs.Seats.{HasStopped, views_of_all};
+
+use crate::rule::Holdings;
+use crate::seats::{SharedSeat, deal, gather};
+use call_laws::SharedPhase;
+use call_steps::{puts_after, run_put, run_take, start_words, takes_after};
+use cursor_word::Shape;
+use rail::{Put, Take};
+use std::alloc::{AllocError, Global};
+use std::marker::{Brand, Model};
+use step_log::{Stopped, Words};
+
+/// The words of a queue, and what its seats do on them.
+#[derive(Drop)]
+pub struct SharedQueue<P: SharedPhase> {
+    words: Words<Holdings<P>>,
+    shape: Shape,
+}
+
+impl<P: SharedPhase> Model for SharedQueue<P> {
+    ghost use Rattle.std.specs.Prelude.{◌≡◌};
+    ghost use Rattle.cursor_word.specs.Layout.{word_count};
+    ghost use Rattle.call_steps.specs.Queue.{Queue};
+
+    ghost Value = { Queue };
+
+    ghost view = { λ q. record { id = q.words.id; shape = q.words.key } };
+
+    ghost invariant = { λ q. (q.words.key ≡ q.shape) × (q.words.id.words ≡ word_count q.shape) };
+}
+
+impl<P: SharedPhase> SharedQueue<P> {
+    /// A queue of this shape, and all its seats. None of them has made or taken anything.
+    pub fn make(
+        alloc: Global,
+        shape: Shape,
+    ) -> Result<(SharedQueue<P>, Vec<SharedSeat<P>>), AllocError>
+        ensures shape { IfOk result (λ r. r.0.shape ≡ shape) }
+        ensures numbers { IfOk result (λ r. map (λ s. s.number) r.1.items
+            ≡ numbers_below shape.seats) }
+        ensures fresh { IfOk result (λ r. All (IsFresh r.0) r.1.items) }
+    {
+        P::keeps();
+        let _blocks = shape.blocks();
+        let start = start_words(alloc, &shape)?;
+        let (words, first) = Words::<Holdings<P>>::make(alloc, start, shape)?;
+        let seats = deal::<P>(alloc, &words, first, &shape)?;
+        Ok((SharedQueue { words, shape }, seats))
+    }
+
+    /// The shape of the queue.
+    pub fn shape(&self) -> Shape
+        ensures shape { result ≡ self.now.shape }
+        ensures limits { IsWithinLimits result }
+    {
+        let _blocks = self.shape.blocks();
+        self.shape
+    }
+
+    /// Puts an entry, by the machine's steps and no other.
+    #[inline(always)]
+    pub fn put(&self, seat: &mut SharedSeat<P>, entry: &[u64]) -> Put
+        requires seat { IsSeatOf self.now seat.old }
+        requires width { length entry.now ≡ self.now.shape.width }
+        requires room { length seat.old.view.made < most_puts self.now.shape }
+        ensures of { seat.new.of ≡ seat.old.of }
+        ensures number { seat.new.number ≡ seat.old.number }
+        ensures taken { seat.new.view.taken ≡ seat.old.view.taken }
+        ensures answer { Puts self.now.shape P.drops entry.now seat.old.view.made seat.new.view.made
+            seat.new.view.trail result }
+        ensures told { seat.new.view.answer ≡ Some (answer.Put result) }
+        ensures steps { (steps : List Taken)
+            × TookSteps P.table self.now.shape entry.now P.table.first_put steps (answer.Put result)
+            seat.new.view.trail seat.old.log seat.new.log }
+    {
+        let _blocks = self.shape.blocks();
+        let result = run_put::<P, Holdings<P>, Brand>(
+            &self.words,
+            &self.shape,
+            &mut seat.seat,
+            entry,
+        );
+        seat.puts = puts_after(seat.puts, &result);
+        result
+    }
+
+    /// Takes an entry, by the machine's steps and no other, from the phase in which a take begins.
+    #[inline(always)]
+    pub fn take(&self, seat: &mut SharedSeat<P>, first: P, out: &mut [u64]) -> Take
+        requires seat { IsSeatOf self.now seat.old }
+        requires first { first ≡ P.table.first_take self.now.shape seat.old.view.taken }
+        requires width { length out.old ≡ self.now.shape.width }
+        ensures of { seat.new.of ≡ seat.old.of }
+        ensures number { seat.new.number ≡ seat.old.number }
+        ensures made { seat.new.view.made ≡ seat.old.view.made }
+        ensures answer { Takes self.now.shape P.drops seat.new.view.made out.old out.new
+            seat.old.view.taken seat.new.view.taken seat.new.view.trail result }
+        ensures told { seat.new.view.answer ≡ Some (answer.Take result) }
+        ensures steps { (steps : List Taken)
+            × TookSteps P.table self.now.shape [] first steps (answer.Take result)
+            seat.new.view.trail seat.old.log seat.new.log }
+    {
+        let result = run_take::<P, Holdings<P>, Brand>(
+            &self.words,
+            &self.shape,
+            &mut seat.seat,
+            first,
+            out,
+        );
+        seat.takes = takes_after(seat.takes, &result);
+        result
+    }
+
+    /// Stops all steps, with all seats of the queue.
+    pub fn stop(self, seats: Vec<SharedSeat<P>>) -> Stopped
+        requires seats { All (IsSeatOf self) seats.items }
+        requires all { length seats.items ≡ self.shape.seats }
+        ensures words { length result ≡ word_count self.shape }
+        ensures stopped { HasStopped P.table P.Holds self.shape result (views_of_all seats.items) }
+    {
+        P::seats();
+        let _blocks = self.shape.blocks();
+        let SharedQueue { words, .. } = self;
+        let all = gather::<P>(&words, seats);
+        words.close(all)
+    }
+}
