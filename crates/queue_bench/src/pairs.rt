@@ -1,6 +1,6 @@
 //! A put and a take through one seat, again and again.
 ghost use Rattle.std.specs.Prelude.{◌≡◌, ◌+◌, ◌≤◌, ◌<◌, length};
-ghost use Rattle.rail.specs.Rail.{most_puts};
+ghost use Rattle.cursor_word.specs.Cursor.{most_puts};
 
 use rail::{Put, Rail, Take};
 
@@ -9,7 +9,7 @@ pub fn pairs<Q: Rail>(rail: &Q, seat: &mut Q::Seat, times: u64) -> u64
     requires puts { Q.PutsInto rail.now seat.old }
     requires takes { Q.TakesFrom rail.now seat.old }
     requires width { (Q.shape_of rail.now).width ≡ 6 }
-    requires room { length (Q.made seat.old) + times ≤ most_puts }
+    requires room { length (Q.made seat.old) + times ≤ most_puts (Q.shape_of rail.now) }
 {
     let mut kept = 0;
     for turn in 0..times {
@@ -23,7 +23,7 @@ fn pair<Q: Rail>(rail: &Q, seat: &mut Q::Seat, turn: u64) -> bool
     requires puts { Q.PutsInto rail.now seat.old }
     requires takes { Q.TakesFrom rail.now seat.old }
     requires width { (Q.shape_of rail.now).width ≡ 6 }
-    requires room { length (Q.made seat.old) < most_puts }
+    requires room { length (Q.made seat.old) < most_puts (Q.shape_of rail.now) }
     ensures puts { Q.PutsInto rail.now seat.new }
     ensures takes { Q.TakesFrom rail.now seat.new }
     ensures one { length (Q.made seat.new) ≤ length (Q.made seat.old) + 1 }

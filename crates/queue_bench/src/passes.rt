@@ -1,6 +1,6 @@
 //! Entries through one `RetryRail` by several threads: every seat but the last puts, and the last takes.
 ghost use Rattle.std.specs.Prelude.{◌≡◌, ◌+◌, ◌<◌, ◌≤◌, All, length};
-ghost use Rattle.rail.specs.Rail.{most_puts};
+ghost use Rattle.cursor_word.specs.Cursor.{most_puts};
 ghost use Rattle.call_steps.specs.Queue.{IsFresh, IsSeatOf};
 ghost use denote.Param.Send.{IsSync};
 
@@ -38,6 +38,7 @@ pub fn pass<R: Threads + Wait + Sync>(
             requires { IsSync R.row × IsFresh queue.now seat.now × (queue.now.shape.width ≡ 6) × (each ≤ 1000000) }
         {
             if index < producers {
+                let _most = queue.shape().most_puts();
                 put_all(rt, queue, seat, each);
             } else {
                 whole.store(take_all(rt, queue, seat, count), Ordering::SeqCst);
@@ -50,7 +51,7 @@ pub fn pass<R: Threads + Wait + Sync>(
 fn put_all(rt: &impl Wait, queue: &RetryRail, seat: &mut RetrySeat, times: u64)
     requires seat { IsSeatOf queue.now seat.old }
     requires width { queue.now.shape.width ≡ 6 }
-    requires room { length seat.old.view.made + times ≤ most_puts }
+    requires room { length seat.old.view.made + times ≤ most_puts queue.now.shape }
 {
     for turn in 0..times {
         put_one(rt, queue, seat, turn);
@@ -61,7 +62,7 @@ fn put_all(rt: &impl Wait, queue: &RetryRail, seat: &mut RetrySeat, times: u64)
 fn put_one(rt: &impl Wait, queue: &RetryRail, seat: &mut RetrySeat, turn: u64)
     requires seat { IsSeatOf queue.now seat.old }
     requires width { queue.now.shape.width ≡ 6 }
-    requires room { length seat.old.view.made < most_puts }
+    requires room { length seat.old.view.made < most_puts queue.now.shape }
     ensures seat { IsSeatOf queue.now seat.new }
     ensures one { length seat.new.view.made ≤ length seat.old.view.made + 1 }
 {

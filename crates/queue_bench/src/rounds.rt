@@ -93,6 +93,7 @@ fn solo_pair_round<R: Clock>(
     work: &Work,
 ) -> Result<(u64, u128), anyhow::Error> {
     let shape = shape_of(work.blocks, 1)?;
+    let _most = shape.most_puts();
     let (rail, mut seat) = SoloRetry::make(alloc, shape)?;
     let start = Instant::now(rt)?;
     let kept = pairs(&rail, &mut seat, work.pairs);
@@ -105,6 +106,7 @@ fn retry_pair_round<R: Clock>(
     work: &Work,
 ) -> Result<(u64, u128), anyhow::Error> {
     let shape = shape_of(work.blocks, 1)?;
+    let _most = shape.most_puts();
     let (rail, mut seats) = RetryRail::make(alloc, shape)?;
     let Some(mut seat) = seats.pop() else {
         return Ok((0, 0));

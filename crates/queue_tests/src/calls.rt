@@ -1,6 +1,5 @@
 //! Calls of any queue, through its bound.
 ghost use Rattle.std.specs.Prelude.{◌≡◌, ◌+◌, ◌≤◌, ◌<◌, length};
-ghost use Rattle.rail.specs.Rail.{most_puts};
 
 use rail::{Answer, Rail};
 use std::alloc::{AllocError, Global};
@@ -9,13 +8,15 @@ use std::alloc::{AllocError, Global};
 pub fn call_of<Q: Rail>(rail: &Q, seat: &mut Q::Seat, word: Option<u64>) -> (Answer, [u64; 8])
     requires puts { Q.PutsInto rail.now seat.old }
     requires takes { Q.TakesFrom rail.now seat.old }
-    requires room { length (Q.made seat.old) < most_puts }
+    requires few { length (Q.made seat.old) < 1000 }
     ensures puts { Q.PutsInto rail.now seat.new }
     ensures takes { Q.TakesFrom rail.now seat.new }
     ensures number { Q.number_of seat.new ≡ Q.number_of seat.old }
     ensures one { length (Q.made seat.new) ≤ length (Q.made seat.old) + 1 }
 {
-    let width = rail.shape().width() as usize;
+    let shape = rail.shape();
+    let _most = shape.most_puts();
+    let width = shape.width() as usize;
     let mut words = [0, 1, 2, 3, 4, 5, 6, 7];
     let answer = match word {
         Some(word) => {

@@ -8,28 +8,40 @@ use std::test::Fail;
 #[test]
 fn shapes_are_refused_in_order(rt: HostRuntime) -> Result<(), Fail> {
     for (blocks, size, width, seats, want) in [
-        (1, 0, 9, 300, ShapeError::Blocks),
-        (2, 0, 9, 300, ShapeError::Size),
-        (2, 1, 9, 300, ShapeError::Width),
-        (2, 1, 8, 300, ShapeError::Seats),
+        (1, 0, 9, 1025, ShapeError::Blocks),
+        (2, 0, 9, 1025, ShapeError::Size),
+        (2, 65_537, 8, 1, ShapeError::Size),
+        (2, 1, 9, 1025, ShapeError::Width),
+        (2, 1, 8, 1025, ShapeError::Seats),
     ] {
         assert_eq!(rt; Shape::new(blocks, size, width, seats), Err(want));
     }
-    let largest = Shape::new(256, 1024, 8, 256)?;
-    assert_eq!(rt; largest.words(), 2_098_178);
-    assert_eq!(rt; largest.blocks(), 256);
-    assert_eq!(rt; largest.size(), 1024);
-    assert_eq!(rt; largest.width(), 8);
-    assert_eq!(rt; largest.seats(), 256);
+    Ok(())
+}
+
+#[test]
+fn shapes_tell_their_numbers(rt: HostRuntime) -> Result<(), Fail> {
+    for (numbers, words, most_puts) in [
+        ((2, 1, 8, 300), 26, 14_660_155_037),
+        ((8, 64, 6, 1), 3_106, 281_474_976_710_656),
+        ((2, 1, 1, 1024), 12, 4_294_967_296),
+        ((256, 65_536, 8, 1024), 134_218_754, 281_474_976_710_656),
+    ] {
+        let (blocks, size, width, seats) = numbers;
+        let shape = Shape::new(blocks, size, width, seats)?;
+        let told = (shape.blocks(), shape.size(), shape.width(), shape.seats());
+        assert_eq!(rt; told, numbers);
+        assert_eq!(rt; (shape.words(), shape.most_puts()), (words, most_puts));
+    }
     Ok(())
 }
 
 #[test]
 fn cursors_are_words(rt: HostRuntime) {
     for (block, offset, word) in [
-        (2, 1, 0x0000_0000_0002_0001),
-        (3, 0, 196_608),
-        (1_099_511_627_776, 1024, 0x0100_0000_0000_0400),
+        (2, 1, 0x0000_0000_0020_0001),
+        (3, 0, 3_145_728),
+        (1_099_511_627_776, 1024, 0x1000_0000_0000_0400),
     ] {
         let cursor = Cursor { block, offset };
         assert_eq!(rt; cursor.pack(), word);
@@ -52,10 +64,10 @@ fn words_lie_and_start_by_the_layout(rt: HostRuntime) -> Result<(), Fail> {
     for (index, word) in [
         (0, 2),
         (1, 2),
-        (2, 131_072),
-        (5, 131_072),
-        (6, 65_539),
-        (9, 65_539),
+        (2, 2_097_152),
+        (5, 2_097_152),
+        (6, 1_048_579),
+        (9, 1_048_579),
         (10, 0),
         (21, 0),
     ] {

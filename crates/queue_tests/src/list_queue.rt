@@ -35,6 +35,7 @@ fn ended_counts<Q: Rail>(done: &Q::Done) -> (u64, usize) {
 #[test]
 fn what_passes_is_what_was_put(rt: HostRuntime) -> Result<(), Fail> {
     let shape = Shape::new(2, 1, 1, 1)?;
+    let _most = shape.most_puts();
     let (rail, seat) = ListRail::make(rt.alloc(), shape, 4)?;
     let entries = [Entry::new(&[7]), Entry::new(&[8]), Entry::new(&[9])];
     let passed = pass_all(rt.alloc(), rail, seat, &entries)?;

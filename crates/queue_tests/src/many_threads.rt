@@ -30,7 +30,7 @@ fn answer_of(queue: &RetryRail, seats: &mut [RetrySeat], word: Option<u64>) -> A
 {
     let seat = &mut seats[0];
     match word {
-        Some(word) if RetryRail::puts(seat) < MANY => Answer::Put(queue.put(seat, &[word])),
+        Some(word) if RetryRail::puts(seat) < queue.shape().most_puts() => Answer::Put(queue.put(seat, &[word])),
         _ => Answer::Take(queue.take(seat, &mut [0])),
     }
 }
@@ -205,7 +205,7 @@ fn put_once(queue: &RetryRail, seat: &mut RetrySeat, marks: &Marks, words: [u64;
     ensures own { IsSeatOf queue.now seat.new }
     ensures number { seat.new.number ≡ seat.old.number }
 {
-    if RetryRail::puts(seat) >= MANY {
+    if RetryRail::puts(seat) >= queue.shape().most_puts() {
         return false;
     }
     match queue.put(seat, words.as_slice()) {
