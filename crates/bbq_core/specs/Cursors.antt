@@ -39,9 +39,10 @@ pub record IsHalfOpen (shape : Grid) (back : Front) (consumer top : ℕ) : Type 
   pub behind : consumer < back.last
   pub at : back.next ≡ place shape back.last 0
 
--- the cursors of the newest blocks that takes opened, as many as there are physical ones, where opened
--- is the last block opened to puts: takes are at most one round behind
-pub record TakeWords (shape : Grid) (opened : ℕ) (back : Front) (cursors : TakeCursors) : Type 0 where
+-- the cursors of the newest blocks that takes opened, as many as there are physical ones, where
+-- opened is the last block opened to puts: takes are at most one round behind
+pub record TakeWords (shape : Grid) (opened : ℕ) (back : Front) (cursors : TakeCursors)
+    : Type 0 where
   pub from : shape.blocks ≤ back.last
   pub behind : back.last ≤ opened
   pub near : opened ≤ back.last + shape.blocks

@@ -22,8 +22,8 @@ use Rattle.bbq_core.specs.Stage.{stage_of}
 use Rattle.bbq_core.specs.Cursors.{TakeCursors, TakeWords, consumed_word, reserved_word, take_cursors}
 use Rattle.bbq_core.specs.Counts.{TakeCounts, fetched, reading_in}
 
--- what a seat may remember something of: the last block opened to takes, the cursors that takes move, the
--- committed cursors, and what all seats have made
+-- what a seat may remember something of: the last block opened to takes, the cursors that takes
+-- move, the committed cursors, and what all seats have made
 pub record Scene : Type 0 where
   pub passed : ℕ
   pub cursors : TakeCursors
@@ -68,7 +68,8 @@ pub record IsReadOf (shape : Grid) (views : List View) (p count : ℕ) (read : L
   pub made : IsMade views (placed p words)
   pub front : read ≡ take count words
 
--- in the second turn of a take: the cursor that was found spent in the first, of a block below the head
+-- in the second turn of a take: the cursor that was found spent in the first, of a block below the
+-- head
 pub record IsSecondTake (shape : Grid) (turn : ℕ) (first : Cursor) (head : ℕ) : Type 0 where
   pub is : turn ≡ 2
   pub from : shape.blocks ≤ first.block
@@ -88,19 +89,26 @@ TakeKnows shape s read (HeadC turn first) = TakeTurn shape turn first s.cursors.
 TakeKnows shape s read (SeeRes turn first head) =
     TakeTurn shape turn first head × (shape.blocks ≤ head) × (head ≤ s.cursors.consumer)
 TakeKnows shape s read (SeeCom r) = IsReserved shape s.cursors r
-TakeKnows shape s read (SeeAll r m) = IsReserved shape s.cursors r × IsAhead shape s.committed r m
-TakeKnows shape s read (Reserve r) = IsReserved shape s.cursors r × MadeTo shape s.views r.block r.offset
+TakeKnows shape s read (SeeAll r m) =
+    IsReserved shape s.cursors r × IsAhead shape s.committed r m
+TakeKnows shape s read (Reserve r) =
+    IsReserved shape s.cursors r × MadeTo shape s.views r.block r.offset
 TakeKnows shape s read (Read at next) =
-    IsCurrent shape s.passed at × (next < shape.width) × IsReadOf shape s.views (place_at shape at) next read
+    IsCurrent shape s.passed at × (next < shape.width)
+    × IsReadOf shape s.views (place_at shape at) next read
 TakeKnows shape s read (Consume at) =
     IsCurrent shape s.passed at × IsMade s.views (placed (place_at shape at) read)
 TakeKnows shape s read (NextCom spent) = IsPassed shape s.cursors spent
-TakeKnows shape s read (OpenX spent) = IsPassed shape s.cursors spent × IsOpened spent s.committed
-TakeKnows shape s read (OpenR spent) = IsPassed shape s.cursors spent × IsOpened spent s.cursors.consumed
-TakeKnows shape s read (RaiseC spent) = IsPassed shape s.cursors spent × IsOpened spent s.cursors.reserved
+TakeKnows shape s read (OpenX spent) =
+    IsPassed shape s.cursors spent × IsOpened spent s.committed
+TakeKnows shape s read (OpenR spent) =
+    IsPassed shape s.cursors spent × IsOpened spent s.cursors.consumed
+TakeKnows shape s read (RaiseC spent) =
+    IsPassed shape s.cursors spent × IsOpened spent s.cursors.reserved
 
--- What a seat remembers besides what the side of puts says. A put that found a filled block: the older block in
--- the next one's place was found wholly consumed, or not, and then all that the seat made lies up to the filled one.
+-- What a seat remembers besides what the side of puts says. A put that found a filled block: the
+-- older block in the next one's place was found wholly consumed, or not, and then all that the seat
+-- made lies up to the filled one.
 abbrev pub Knows : Grid → Scene → List Placed → List ℕ → Option Phase → Type 0
 Knows shape s made read (Some (SeeR full x)) =
     (packed x < older_consumed shape full.block)
@@ -110,16 +118,20 @@ Knows shape s made read (Some (OpenM full)) =
 Knows shape s made read (Some (Take q)) = TakeKnows shape s read q
 Knows shape s made read phase = Unit {0}
 
--- one seat: what it remembers, the places that it has taken or reads rise, and what it took was made
+-- one seat: what it remembers, the places that it has taken or reads rise, and what it took was
+-- made
 pub record TakeFits (shape : Grid) (s : Scene) (view : View) : Type 0 where
   pub knows : Knows shape s view.made view.read view.phase
   pub rising : IsRising (fetched shape view)
-  pub items : (i : ℕ) (item : Placed) → slice_get view.taken i ≡ Some item → IsMade s.views item
+  pub items : (i : ℕ) (item : Placed)
+      → slice_get view.taken i ≡ Some item → IsMade s.views item
   -- a take that has reserved no place yet has read nothing
-  pub unread : (q : TakePhase) → view.phase ≡ Some (Take q) → reading_in shape q ≡ [] → view.read ≡ []
+  pub unread : (q : TakePhase) → view.phase ≡ Some (Take q)
+      → reading_in shape q ≡ [] → view.read ≡ []
 
 -- puts and takes, where they have come this far
-pub record IsSoundAt (shape : Grid) (front back : Front) (words : List ℕ) (views : List View) : Type 0 where
+pub record IsSoundAt (shape : Grid) (front back : Front) (words : List ℕ) (views : List View)
+    : Type 0 where
   pub puts : PutSide stage_of shape front words views
   pub takes : TakeWords shape front.last back (take_cursors shape words)
   pub counts : TakeCounts shape back (take_cursors shape words) views
@@ -140,8 +152,10 @@ raises_consumer block phase = 0
 abbrev pub in_all : (Option Phase → ℕ) → List View → ℕ
 in_all f views = sum_by (λ (view : View). f view.phase) views
 
--- who is at work where a cursor or a head lags behind the last block that was opened to puts or to takes
-pub record IsManned (shape : Grid) (front back : Front) (words : List ℕ) (views : List View) : Type 0 where
+-- who is at work where a cursor or a head lags behind the last block that was opened to puts or to
+-- takes
+pub record IsManned (shape : Grid) (front back : Front) (words : List ℕ) (views : List View)
+    : Type 0 where
   pub puts : puts.IsManned stage_of shape front (put_cursors shape words) views
   pub reserved : (reserved_word shape words back.last / offset_span ≡ back.last)
       ⊎ (1 ≤ in_all (opens_reserved back.last) views)

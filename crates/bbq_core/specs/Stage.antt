@@ -1,4 +1,5 @@
--- The stage of a put in each phase: the shared ones, and those in which this queue looks at the older block.
+-- The stage of a put in each phase: the shared ones, and those in which this queue looks at the
+-- older block.
 use Rattle.bbq_core.specs.declared.phase.Phase.{Phase}
 use Rattle.bbq_core.specs.declared.phase.Phase.TheVariants.{HeadP, SeeA, AddA, Write, Commit, SeeX, SeeR, OpenM, OpenA, RaiseP, Take}
 use Rattle.put_side.specs.Stages as stages
