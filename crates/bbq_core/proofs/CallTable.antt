@@ -19,7 +19,7 @@ use Rattle.bbq_core.specs.TakeSteps.{after_take, is_same}
 use Rattle.bbq_core.specs.Table.{is_put, reading, table}
 use Rattle.bbq_core.specs.Laws.{steps_of_answer, steps_of_phase}
 use Rattle.bbq_core.proofs.StepBound.{leads}
-use Rattle.bbq_core.proofs.TakeLoads.{pick_less}
+use Rattle.bbq_core.proofs.Loads.{pick_less}
 
 either : (K : After → Type 0) (b : Bool) (x y : After) → K x → K y → K (if b then x else y)
 either K true x y hit miss = hit

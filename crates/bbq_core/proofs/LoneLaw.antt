@@ -14,7 +14,7 @@ use Rattle.machine.specs.declared.event.Event.{Event}
 use Rattle.machine.specs.declared.event.Start.{Start}
 use Rattle.machine.specs.declared.event.Start.TheVariants as start
 use Rattle.machine.specs.Steps as steps
-use Rattle.machine.specs.Steps.{IsWide, Suits, finds}
+use Rattle.machine.specs.Steps.{IsWide, Suits, begun, finds, view_after, words_after}
 use Rattle.machine.specs.Moments.{BeginsCall, EndsAt, IsCall, IsDoneAlone, IsMidCall, IsOverlapped, IsUnmixed, answer_in, moment, phase_in, phase_of}
 use Rattle.machine.proofs.Lists.{all_at, get_set_same, set_twice}
 use Rattle.machine.proofs.Runs.{moment_total}
@@ -29,12 +29,10 @@ use Rattle.bbq_core.specs.Counts.{taken_total}
 use Rattle.machine.specs.Invariant.{made_total}
 use Rattle.bbq_core.specs.Alone.{AnswersAlone, GoesOnAlone, IsAlone, IsStill}
 use Rattle.bbq_core.specs.Rest.{AnsweredAsOne, AnswersAsOne}
-use Rattle.bbq_core.specs.Machine.{begun, view_after, words_after}
 use Rattle.bbq_core.proofs.CallKinds.{OfCall, call_stays}
 use Rattle.bbq_core.proofs.AloneCalls.{goes_alone, put_alone, take_alone}
-use Rattle.bbq_core.proofs.TakeLoads.{by_equal}
-use Rattle.bbq_core.proofs.Keeping.{seen_alike}
-use Rattle.bbq_core.proofs.Reached.{moment_attended}
+use Rattle.bbq_core.proofs.Loads.{by_equal}
+use Rattle.bbq_core.proofs.Reached.{moment_sound}
 
 -- the seat is alone in a call that was begun so
 record LoneState (g : Grid) (n t seat : ℕ) (begins : Start) (w : MachineState) (p : Phase) : Type 0 where
@@ -68,10 +66,9 @@ module _ (g : Grid) (n t seat : ℕ) (begins : Start) where
   module _ (limits : IsWithinLimits g) (room : n ≤ place_span g) where
     -- a turn of the seat
     own_moves : (ws : List ℕ) (vs : List View) (v : View) (p : Phase) → IsAlone g n t ws vs seat p → OfCall begins (Next p) → slice_get vs seat ≡ Some v → v.phase ≡ Some p
-        → ComesTo (record { words = words_after g ws v p; views = slice_set vs seat (steps.view_after table g ws v p) })
+        → ComesTo (record { words = words_after table g ws v p; views = slice_set vs seat (view_after table g ws v p) })
     own_moves ws vs v p alone kind at e =
-        subst (λ (u : View). ComesTo (record { words = words_after g ws v p; views = slice_set vs seat u })) (seen_alike g v p (finds table g ws v p))
-        (settles (words_after g ws v p) vs v (view_after g ws v p) (after g p (finds table g ws v p)) at refl refl (call_stays g begins p _ kind) (goes_alone g n t ws vs seat v p limits alone room at e))
+        settles (words_after table g ws v p) vs v (view_after table g ws v p) (after g p (finds table g ws v p)) at refl refl (call_stays g begins p _ kind) (goes_alone g n t ws vs seat v p limits alone room at e)
 
     own_turn : (w : MachineState) (v : View) (s : Start) (p : Phase) (ph : Option Phase) → IsAlone g n t w.words w.views seat p → OfCall begins (Next p) → slice_get w.views seat ≡ Some v → v.phase ≡ ph → ph ≡ Some p
         → (let m = steps.moves table g w.words (steps.begun table g v ph s) (steps.begun table g v ph s).phase in ComesTo (record { words = m.words; views = slice_set w.views seat m.view }))
@@ -88,13 +85,13 @@ module _ (g : Grid) (n t seat : ℕ) (begins : Start) where
         → (let m = steps.moves table g w.words (steps.begun table g v ph s) (steps.begun table g v ph s).phase in ComesTo (record { words = m.words; views = slice_set w.views seat m.view }))
     begins_lone w v s (Some p) same still at e none is wide = cc
     begins_lone w v (start.Put entry) None same still at e none is wide =
-        let v' : View = begun v None (start.Put entry) in
-        subst (λ (vs : List View). ComesTo (record { words = words_after g w.words v' first_put; views = vs })) (set_twice w.views seat v' (steps.view_after table g w.words v' first_put))
-        (own_moves w.words (slice_set w.views seat v') v' first_put (put_alone g n t w.words w.views seat v entry still at wide) (subst (λ (b : Start). OfCall b (Next first_put)) same tt) (get_set_same w.views seat v v' at) refl)
+        let v' : View = begun table g v None (start.Put entry) in
+        subst (λ (vs : List View). ComesTo (record { words = words_after table g w.words v' first_put; views = vs })) (set_twice w.views seat v' (view_after table g w.words v' first_put))
+        (own_moves w.words (slice_set w.views seat v') v' first_put (put_alone g limits n t w.words w.views seat v still at entry wide) (subst (λ (b : Start). OfCall b (Next first_put)) same tt) (get_set_same w.views seat v v' at) refl)
     begins_lone w v start.Take None same still at e none is wide =
-        let v' : View = begun v None start.Take in
-        subst (λ (vs : List View). ComesTo (record { words = words_after g w.words v' first_take; views = vs })) (set_twice w.views seat v' (steps.view_after table g w.words v' first_take))
-        (own_moves w.words (slice_set w.views seat v') v' first_take (take_alone g n t w.words w.views seat v still at) (subst (λ (b : Start). OfCall b (Next first_take)) same tt) (get_set_same w.views seat v v' at) refl)
+        let v' : View = begun table g v None start.Take in
+        subst (λ (vs : List View). ComesTo (record { words = words_after table g w.words v' first_take; views = vs })) (set_twice w.views seat v' (view_after table g w.words v' first_take))
+        (own_moves w.words (slice_set w.views seat v') v' first_take (take_alone g limits n t w.words w.views seat v still at) (subst (λ (b : Start). OfCall b (Next first_take)) same tt) (get_set_same w.views seat v v' at) refl)
     begins_lone w v start.Go None same still at e none is wide = absurd is
 
   -- another seat's turn
@@ -108,8 +105,8 @@ module _ (g : Grid) (n t seat : ℕ) (begins : Start) where
 module _ (g : Grid) (events : List Event) (limits : IsWithinLimits g) (suits : AllByRecursion (Suits table g) events) (few : length events < most_puts g) where
   still_at : (n : ℕ) → ((j : ℕ) → phase_of table g events n j ≡ None) → (let w = moment table g events n in IsStill g (made_total w.views) (taken_total w.views) w.words w.views)
   still_at n rest =
-      let s = moment_attended g events limits suits few n in
-      record { opened = s.opened; passed = s.passed; allocated = s.allocated; reserved = s.reserved; sound = s.sound; manned = s.manned; rest = rest_at (moment table g events n).views rest; made = refl; taken = refl }
+      let s = moment_sound g events limits suits few n in
+      record { front = s.front; back = s.back; sound = s.sound; manned = s.manned; rest = rest_at (moment table g events n).views rest; made = refl; taken = refl }
 
   module _ (seat n m : ℕ) (begins : Start) (call : IsCall table g events seat n m begins) where
     own_event : Suits table g (record { seat = seat; start = begins })

@@ -1,6 +1,6 @@
 -- What each step tells of the answer that it gives.
 use Rattle.std.proofs.Common.{◌≡◌, ◌≢◌, ℕ, zero, suc, ◌+◌, ◌-◌, ◌*◌, ◌/◌, ◌%◌, ◌<◌, ◌≤◌, List, [], ◌∷◌, ◌++◌, cond, refl, sym, ap, ◌∙◌, subst, inl, inr, ⊎_elim, arith}
-use Rattle.std.specs.Prelude.{Option, Some, false, slice_get, slice_index, if◌then◌else◌, ◌==◌, ◌&&◌}
+use Rattle.std.specs.Prelude.{Option, Some, false, slice_get, if◌then◌else◌, ◌==◌, ◌&&◌}
 use Rattle.std.specs.List.{All, AllByRecursion, Contains, sum_by}
 use Rattle.std.proofs.lemmas.Bool.{and_from, both_ways, cases_eq, cases_lt, cond_both, eq-eqb}
 use Rattle.std.proofs.lemmas.Bool.Decides.{nat_tests}
@@ -22,40 +22,43 @@ use Rattle.bbq_core.specs.declared.take_phase.TakePhase.TheVariants.{HeadC, SeeR
 use Rattle.bbq_core.specs.Types.{After, View, MachineState}
 use Rattle.machine.specs.declared.op.After.TheVariants.{Next, Done}
 use Rattle.rail.specs.declared.answer.Answer.TheVariants as answer
-use Rattle.bbq_core.specs.PutSteps.{after, filled, older_consumed, want}
-use Rattle.bbq_core.specs.Machine.{made_after, taken_after}
-use Rattle.machine.specs.Ops.{index}
-use Rattle.bbq_core.specs.Blocks.{allocated_word, committed_word, consumed_word, place, reserved_word}
-use Rattle.bbq_core.specs.Counts.{fetches, held, makes, one_at, reading, times}
-use Rattle.bbq_core.specs.Sound.{IsFilled, IsMade, IsSound, IsSoundAt, TakeKnows, TurnFits}
 use Rattle.bbq_core.specs.Moments.{EmptyAt, FullAt}
 use Rattle.bbq_core.specs.Causes.{Differ}
-use Rattle.bbq_core.proofs.Views.{by_test_le, not_there, times-cons, two_le_sum}
 use Rattle.machine.proofs.Lists.{one_le_sum}
-use Rattle.bbq_core.proofs.Stores.{counted}
 use Rattle.cursor_word.proofs.Blocks.{latest, latest_is, same_block}
-use Rattle.bbq_core.proofs.Facts.{all_below, committed_below, found, none_from, one_in, one_to, physical, repacked}
-use Rattle.bbq_core.proofs.Quiet.{fits_at}
-use Rattle.bbq_core.proofs.TakeFrames.{knows_at}
-use Rattle.bbq_core.proofs.TakeFacts.{found_R, made_once}
-use Rattle.bbq_core.proofs.TakeLoads.{committed_found, pick_equal, pick_less, pick_same}
-use Rattle.bbq_core.proofs.Opens.{takes_le, upto_none}
 use Rattle.bbq_core.proofs.AtAnswers.{empty_at, empty_past, full_at}
+use Rattle.machine.specs.Steps.{finds}
+use Rattle.put_side.specs.Cursors.{Front, allocated_word, committed_word, place, put_cursors}
+use Rattle.put_side.specs.Counts.{makes, one_at, times}
+use Rattle.put_side.specs.Entries.{IsMade}
+use Rattle.put_side.specs.Places.{IsFilled, IsTurn, PutKnows}
+use Rattle.put_side.specs.PutTable.{stage_in}
+use Rattle.put_side.proofs.Sums.{by_test_le, none_from, not_there, one_in, one_to, times-cons, two_le_sum, upto_none}
+use Rattle.put_side.proofs.Facts.{all_below, committed_below, found, physical, repacked}
+use Rattle.put_side.proofs.Loads as put_loads
+use Rattle.put_side.proofs.Stores.{counted}
+use Rattle.bbq_core.specs.PutSteps.{after, filled, older_consumed}
+use Rattle.bbq_core.specs.Table.{table}
+use Rattle.bbq_core.specs.Stage.{stage, stage_of}
+use Rattle.bbq_core.specs.Cursors.{consumed_word, reserved_word}
+use Rattle.bbq_core.specs.Counts.{fetches, held, reading}
+use Rattle.bbq_core.specs.Sound.{IsSound, IsSoundAt, Knows, TakeKnows, scene}
+use Rattle.bbq_core.proofs.Loads.{pick_equal, pick_less, pick_same}
+use Rattle.bbq_core.proofs.TakeFacts.{found_R, made_once, takes_le}
+use Rattle.bbq_core.proofs.TakeLoads.{committed_found, knows_at}
 
--- what is so in the state in which a seat does the step of a phase, by what follows it: of an answer what a queue promises of the seat's
--- own lists, and that two cursors differ
+-- what is so in the state in which a seat does the step of a phase, by what follows it: of an answer what it says of the
+-- seat's own lists, and that two cursors differ
 abbrev pub Tells : Grid → MachineState → View → Phase → After → Type 0
 Tells g w v p (Next (SeeR full x)) = FullAt g w full.block x
 Tells g w v p (Next q) = Unit {0}
-Tells g w v p (Done (answer.Put (put.Ok place))) = Gains v.made (made_after g v.made v.entry p) (placed place v.entry)
-Tells g w v p (Done (answer.Put (put.Full head x))) =
-    (made_after g v.made v.entry p ≡ v.made) × IsBefore x (cursor (head + 1 - g.blocks) g.size) × All (λ q. q < first_of g (head + 1)) (places v.made)
-Tells g w v p (Done (answer.Put (put.Busy reason))) = (made_after g v.made v.entry p ≡ v.made) × Differ reason p
+Tells g w v p (Done (answer.Put (put.Ok place))) = Gains v.made (v.made ++ placed place v.entry ∷ []) (placed place v.entry)
+Tells g w v p (Done (answer.Put (put.Full head x))) = IsBefore x (cursor (head + 1 - g.blocks) g.size) × All (λ q. q < first_of g (head + 1)) (places v.made)
+Tells g w v p (Done (answer.Put (put.Busy reason))) = Differ reason p
 Tells g w v p (Done (answer.Take (take.Ok place))) =
-    Gains v.taken (taken_after g v.taken v.read p) (placed place v.read) × ((words : List ℕ) → Contains v.made (placed place words) → words ≡ v.read)
-Tells g w v p (Done (answer.Take (take.Empty place))) =
-    (taken_after g v.taken v.read p ≡ v.taken) × EmptyAt g w place × ((q : ℕ) → Contains (places v.made) q → q ≢ place) × All (λ q. q < place) (places v.taken)
-Tells g w v p (Done (answer.Take (take.Busy reason))) = (taken_after g v.taken v.read p ≡ v.taken) × Differ reason p
+    Gains v.taken (v.taken ++ placed place v.read ∷ []) (placed place v.read) × ((words : List ℕ) → Contains v.made (placed place words) → words ≡ v.read)
+Tells g w v p (Done (answer.Take (take.Empty place))) = EmptyAt g w place × ((q : ℕ) → Contains (places v.made) q → q ≢ place) × All (λ q. q < place) (places v.taken)
+Tells g w v p (Done (answer.Take (take.Busy reason))) = Differ reason p
 Tells g w v p (Done (answer.Take (take.Overrun place now))) = ⊥
 
 -- the last of a rising list is beyond the others
@@ -105,31 +108,31 @@ one_item (z ∷ zs) (suc i) (suc k) x y at there e few =
     let t : times y.place (places (z ∷ zs)) ≡ one_at z.place y.place + times y.place (places zs) = times-cons y.place z.place (places zs) in
     one_item zs i k x y at there e (omega arith)
 
-module _ (g : Grid) (K J a t : ℕ) (ws : List ℕ) (vs : List View) (id : ℕ) (v : View) (limits : IsWithinLimits g) (s : IsSoundAt g K J a t ws vs) (here : slice_get vs id ≡ Some v) where
+module _ (g : Grid) (front back : Front) (ws : List ℕ) (vs : List View) (id : ℕ) (v : View) (limits : IsWithinLimits g) (s : IsSoundAt g front back ws vs) (here : slice_get vs id ≡ Some v) where
   abbrev w : MachineState
   w = record { words = ws; views = vs }
 
-  pub full_seen : (full : Cursor) → IsFilled g (allocated_word g ws) full → consumed_word g ws (full.block + 1) < older_consumed g full.block → FullAt g (record { words = ws; views = vs }) full.block (unpacked (consumed_word g ws (full.block + 1)))
+  pub full_seen : (full : Cursor) → IsFilled g (put_cursors g ws) full → consumed_word g ws (full.block + 1) < older_consumed g full.block → FullAt g (record { words = ws; views = vs }) full.block (unpacked (consumed_word g ws (full.block + 1)))
   full_seen full f less =
-      let q = full_at g K J a t ws vs full limits s f less in
+      let q = full_at g limits front back ws vs s full f less in
       let r = repacked (consumed_word g ws (full.block + 1)) in
-      let b = committed_below g K a _ _ _ (full.block + 1) limits.blocks_from (physical g ws 3) s.puts in
+      let b = committed_below s.puts.places.words limits.blocks_from (physical g ws 3) (full.block + 1) in
       record {
         from = f.from;
-        allocated = λ p l. let o = s.counts.once p in let z = one_in p a (omega (arith, q.1)) in omega arith;
+        allocated = λ p l. let o = s.puts.places.counts.once p in let z = one_in p front.next (omega (arith, q.1)) in omega arith;
         not_opened = omega (arith, q.0);
         consumed = refl;
         not_consumed = before_from _ (cursor (full.block + 1 - g.blocks) g.size) (omega (arith, limits.size_to)) (omega arith);
       }
 
-  empty_seen : (p : ℕ) → t ≡ p → sum_by (makes p) vs ≡ 0 → EmptyAt g (record { words = ws; views = vs }) p × ((q : ℕ) → Contains (places v.made) q → q ≢ p) × All (λ q. q < p) (places v.taken)
+  empty_seen : (p : ℕ) → back.next ≡ p → sum_by (makes p) vs ≡ 0 → EmptyAt g (record { words = ws; views = vs }) p × ((q : ℕ) → Contains (places v.made) q → q ≢ p) × All (λ q. q < p) (places v.taken)
   empty_seen p e none =
       let own = one_le_sum (makes p) vs id v here in
-      let from : (q : ℕ) → p ≤ q → sum_by (fetches g q) vs ≡ 0 = λ q l. s.counts.read_once q ∙ none_from q t (omega arith) in
+      let from : (q : ℕ) → p ≤ q → sum_by (fetches g q) vs ≡ 0 = λ q l. s.counts.read_once q ∙ none_from q back.next (omega arith) in
       let below = all_below p (places v.taken) (λ q l. let z = from q l in let o = one_le_sum (fetches g q) vs id v here in let n = takes_le g q v in omega arith) in (
         record {
           not_made = none;
-          reserved = λ q l. let o = s.counts.read_once q in let z = one_in q t (omega arith) in omega arith;
+          reserved = λ q l. let o = s.counts.read_once q in let z = one_in q back.next (omega arith) in omega arith;
           not_reserved = from;
         },
         (λ q h. All-contains (λ (r : ℕ). r ≢ p) (places v.made) q (All-from_recursion _ (places v.made) (none_is p (places v.made) (omega arith))) h),
@@ -137,46 +140,47 @@ module _ (g : Grid) (K J a t : ℕ) (ws : List ℕ) (vs : List View) (id : ℕ) 
       )
 
   -- where a committed cursor was found that counts an item, an allocated cursor of another block is of a later one
-  later_block : (r m : Cursor) → TakeKnows g J (slice_index ws 1) (committed_word g ws) (reserved_word g ws) (consumed_word g ws) vs v.read (SeeAll r m) → allocated_word g ws r.block / offset_span ≢ m.block → m.block < allocated_word g ws r.block / offset_span
+  later_block : (r m : Cursor) → TakeKnows g (scene g back ws vs) v.read (SeeAll r m) → allocated_word g ws r.block / offset_span ≢ m.block → m.block < allocated_word g ws r.block / offset_span
   later_block r m f apart =
-      let c = committed_found g K J a t ws vs r limits s f.0 in
+      let c = committed_found g limits front back ws vs s r f.0 in
       let two = limits.blocks_from in
-      let le : r.block ≤ K = omega (arith, c.opened, s.takes.behind) in
-      let l = latest_is g.blocks r.block K (omega arith) le in
-      let k : ℕ = latest g.blocks r.block K in
+      let le : r.block ≤ front.last = omega (arith, c.opened, s.takes.behind) in
+      let l = latest_is g.blocks r.block front.last (omega arith) le in
+      let k : ℕ = latest g.blocks r.block front.last in
       let same : allocated_word g ws k ≡ allocated_word g ws r.block = physical g ws 2 _ _ l.same in
-      let b = f.1 in
+      let b = f.1.same in
+      let words = s.puts.places.words in
       ⊎_elim
-      (λ n. let q = s.puts.full k n l.near in omega (arith, q.0, l.from))
-      (λ n. let e : k ≡ K = omega (arith, l.to) in
-      let z : allocated_word g ws K ≡ allocated_word g ws r.block = sym (ap (allocated_word g ws) e) ∙ same in
+      (λ n. let q = words.full k n l.near in omega (arith, q.0, l.from))
+      (λ n. let e : k ≡ front.last = omega (arith, l.to) in
+      let z : allocated_word g ws front.last ≡ allocated_word g ws r.block = sym (ap (allocated_word g ws) e) ∙ same in
       ⊎_elim
-      (λ q. omega (arith, q.0))
+      (λ q. omega (arith, q.block))
       (λ q. ⊎_elim
       (λ old. ⊎_elim
-      (λ near. absurd (let y = same_block g.blocks r.block K (sym l.same ∙ ap (λ (h : ℕ). h % g.blocks) e) le near in omega arith))
-      (λ far. omega (arith, q.0))
-      (cases_lt K (r.block + g.blocks)))
-      (λ new. let here_K : r.block ≡ K = omega arith in
-      let m_K : committed_word g ws r.block ≡ committed_word g ws K = ap (committed_word g ws) here_K in
-      let block_K = s.puts.committed K (omega arith) (omega arith) in
-      let count = s.counts.made K (omega arith) (omega arith) s.puts.from in
-      let none = upto_none g.size (λ o. sum_by (makes (place g K o)) vs) (λ o. let y = made_once g K J a t ws vs (place g K o) s in let x = none_from (place g K o) a (omega (arith, q.3)) in omega arith) in
-      absurd (omega (arith, f.2, f.4)))
-      (cases_lt r.block K))
-      s.puts.newest)
-      (cases_lt k K)
+      (λ near. absurd (let y = same_block g.blocks r.block front.last (sym l.same ∙ ap (λ (h : ℕ). h % g.blocks) e) le near in omega arith))
+      (λ far. omega (arith, q.older))
+      (cases_lt front.last (r.block + g.blocks)))
+      (λ new. let here_K : r.block ≡ front.last = omega arith in
+      let m_K : committed_word g ws r.block ≡ committed_word g ws front.last = ap (committed_word g ws) here_K in
+      let block_K = words.committed front.last (omega arith) (omega arith) in
+      let count = s.puts.places.counts.made front.last (omega arith) (omega arith) words.from in
+      let none = upto_none g.size (λ o. sum_by (makes (place g front.last o)) vs) (λ o. let y = made_once g front back ws vs s (place g front.last o) in let x = none_from (place g front.last o) front.next (omega (arith, q.at)) in omega arith) in
+      let a = f.1 in absurd (omega (arith, a.above, a.known)))
+      (cases_lt r.block front.last))
+      words.newest)
+      (cases_lt k front.last)
 
-  filled_tells : (p : Phase) (turn : ℕ) (first : Cursor) (head old : ℕ) → TurnFits g turn first head → head ≤ old / offset_span → made_after g v.made v.entry p ≡ v.made → (first.block < old / offset_span → Differ (why.Moved first (unpacked old)) p)
+  filled_tells : (p : Phase) (turn : ℕ) (first : Cursor) (head old : ℕ) → IsTurn g turn first head → head ≤ old / offset_span → (first.block < old / offset_span → Differ (why.Moved first (unpacked old)) p)
       → Tells g (record { words = ws; views = vs }) v p (filled turn first (unpacked old))
-  filled_tells p turn first head old f from same differ = pick_equal (Tells g (record { words = ws; views = vs }) v p) turn 1 _ _ (λ e. tt) (λ n. ⊎_elim (λ e. absurd (n e)) (λ q. (same, differ (omega (arith, q.3)))) f)
+  filled_tells p turn first head old f from differ = pick_equal (Tells g (record { words = ws; views = vs }) v p) turn 1 _ _ (λ e. tt) (λ n. ⊎_elim (λ e. absurd (n e)) (λ q. differ (omega (arith, q.below))) f)
 
   -- an item of the seat at a made place is the one that was made there
   own_item : (p : ℕ) (words read : List ℕ) → IsMade vs (placed p read) → Contains v.made (placed p words) → words ≡ read
   own_item p words read made own =
       let at : slice_get v.made own.0 ≡ Some (placed p words) = slice_get-get_or v.made own.0 (placed p words) own.1 ∙ ap Some own.2 in
-      let once = made_once g K J a t ws vs p s in
-      let to = one_to p a in
+      let once = made_once g front back ws vs s p in
+      let to = one_to p front.next in
       let mine = counted v.made own.0 (placed p words) at in
       let theirs = counted made.view.made made.number (placed p read) made.there in
       let same : placed p words ≡ placed p read = ⊎_elim
@@ -186,74 +190,80 @@ module _ (g : Grid) (K J a t : ℕ) (ws : List ℕ) (vs : List View) (id : ℕ) 
       (cases_eq made.seat id) in
       ap (λ (x : Placed). x.words) same
 
-  pub step_tells : (p : Phase) → v.phase ≡ Some p → Tells g (record { words = ws; views = vs }) v p (after g p (slice_index ws (index (want g p v.entry))))
+  -- what the side of puts and what takes remember of the seat
+  stood : (p : Phase) → v.phase ≡ Some p → PutKnows g front.last (put_cursors g ws) (stage p)
+  stood p e = put_loads.knows_at stage_of g front ws vs id v v s.puts.places here (stage p) (ap (stage_in stage) e)
+
+  known : (p : Phase) → v.phase ≡ Some p → Knows g (scene g back ws vs) v.made v.read (Some p)
+  known p e = subst (Knows g (scene g back ws vs) v.made v.read) e (s.each id v here).knows
+
+  pub step_tells : (p : Phase) → v.phase ≡ Some p → Tells g (record { words = ws; views = vs }) v p (after g p (finds table g ws v p))
   step_tells (HeadP turn first) e = tt
   step_tells (SeeA turn first head) e =
-      let f = fits_at g K _ _ _ _ ws v (SeeA turn first head) e (s.each id v here) in
-      let is = found g K a _ _ _ head limits.blocks_from (physical g ws 2) s.puts f.2 in
-      pick_less (Tells g w v (SeeA turn first head)) (allocated_word g ws head % offset_span) g.size _ _ (λ l. tt) (λ l. filled_tells (SeeA turn first head) turn first head (allocated_word g ws head) f.0 is.from refl (λ q. q))
+      let f = stood (SeeA turn first head) e in
+      let is = found s.puts.places.words limits.blocks_from (physical g ws 2) head f.1.to in
+      pick_less (Tells g w v (SeeA turn first head)) (allocated_word g ws head % offset_span) g.size _ _ (λ l. tt) (λ l. filled_tells (SeeA turn first head) turn first head (allocated_word g ws head) f.0 is.from (λ q. q))
   step_tells (AddA turn first head) e =
-      let f = fits_at g K _ _ _ _ ws v (AddA turn first head) e (s.each id v here) in
-      let is = found g K a _ _ _ head limits.blocks_from (physical g ws 2) s.puts f.2 in
-      pick_less (Tells g w v (AddA turn first head)) (allocated_word g ws head % offset_span) g.size _ _ (λ l. tt) (λ l. filled_tells (AddA turn first head) turn first head (allocated_word g ws head) f.0 is.from refl (λ q. q))
+      let f = stood (AddA turn first head) e in
+      let is = found s.puts.places.words limits.blocks_from (physical g ws 2) head f.1.to in
+      pick_less (Tells g w v (AddA turn first head)) (allocated_word g ws head % offset_span) g.size _ _ (λ l. tt) (λ l. filled_tells (AddA turn first head) turn first head (allocated_word g ws head) f.0 is.from (λ q. q))
   step_tells (Write at next) e = pick_less (Tells g w v (Write at next)) (next + 1) g.width _ _ (λ l. tt) (λ l. tt)
   step_tells (Commit at) e = record {
     at_end = refl;
-    beyond = All-from_recursion (λ (q : ℕ). q < place_at g at) (places v.made) (rising_below (place_at g at) (places v.made) (subst IsRising (ap (λ (ph : Option Phase). places v.made ++ held g ph) e) (s.each id v here).rising));
+    beyond = All-from_recursion (λ (q : ℕ). q < place_at g at) (places v.made) (rising_below (place_at g at) (places v.made) (subst IsRising (ap (λ (ph : Option Phase). places v.made ++ held g ph) e) (s.puts.places.each id v here).rising));
   }
   step_tells (SeeX full) e =
-      let f = fits_at g K _ _ _ _ ws v (SeeX full) e (s.each id v here) in
+      let f = stood (SeeX full) e in
       by_test_le (older_consumed g full.block) (consumed_word g ws (full.block + 1)) (λ c. Tells g w v (SeeX full) (if c then Next (OpenM full) else Next (SeeR full (unpacked (consumed_word g ws (full.block + 1)))))) (λ l. tt) (full_seen full f)
   step_tells (SeeR full x) e =
-      let f = fits_at g K _ _ _ _ ws v (SeeR full x) e (s.each id v here) in
+      let f = known (SeeR full x) e in
       let y : Cursor = unpacked (reserved_word g ws (full.block + 1)) in
       cond_both ((x.block == y.block) && (x.offset == y.offset)) _ _ (Tells g w v (SeeR full x))
       (λ q. (
-        refl,
-        before_from x (cursor (full.block + 1 - g.blocks) g.size) (omega (arith, limits.size_to)) f.1,
-        All-from_recursion (λ (q : ℕ). q < first_of g (full.block + 1)) (places v.made) (subst (λ (b : ℕ). AllByRecursion (λ q. q < b) (places v.made)) (omega arith) f.2),
+        before_from x (cursor (full.block + 1 - g.blocks) g.size) (omega (arith, limits.size_to)) f.0,
+        All-from_recursion (λ (q : ℕ). q < first_of g (full.block + 1)) (places v.made) (subst (λ (b : ℕ). AllByRecursion (λ q. q < b) (places v.made)) (omega arith) f.1),
       ))
-      (λ q. (refl, tested_other x y q))
+      (λ q. tested_other x y q)
   step_tells (OpenM full) e = tt
   step_tells (OpenA full) e = tt
   step_tells (RaiseP full) e = tt
   step_tells (Take (HeadC turn first)) e = tt
   step_tells (Take (SeeRes turn first head)) e =
-      let f = knows_at g J _ _ _ _ vs v (SeeRes turn first head) e (s.takes_each id v here) in
-      let is = found_R g K J t _ _ _ head limits.blocks_from (physical g ws 4) s.takes f.2 in
+      let f = knows_at g limits front back ws vs s id v here (SeeRes turn first head) e in
+      let is = found_R s.takes limits.blocks_from (physical g ws 4) head f.2 in
       let T : After → Type 0 = Tells g w v (Take (SeeRes turn first head)) in
       pick_less T (reserved_word g ws head % offset_span) g.size _ _ (λ l. tt)
-      (λ l. pick_equal T turn 1 _ _ (λ q. tt) (λ n. ⊎_elim (λ q. absurd (n q)) (λ q. (refl, omega (arith, q.3, is.from))) f.0))
+      (λ l. pick_equal T turn 1 _ _ (λ q. tt) (λ n. ⊎_elim (λ q. absurd (n q)) (λ q. omega (arith, q.below, is.from)) f.0))
   step_tells (Take (SeeCom r)) e =
-      let f = knows_at g J _ _ _ _ vs v (SeeCom r) e (s.takes_each id v here) in
+      let f = knows_at g limits front back ws vs s id v here (SeeCom r) e in
       let x : ℕ = committed_word g ws r.block in
       let T : After → Type 0 = Tells g w v (Take (SeeCom r)) in
-      pick_equal T x (packed r) _ _ (λ q. let z = empty_at g K J a t ws vs r limits s f q in let n = empty_seen (place_at g r) z.0 z.1 in (refl, n.0, n.1, n.2))
-      (λ n. pick_less T r.block (x / offset_span) _ _ (λ l. (refl, l)) (λ l. pick_equal T (x % offset_span) g.size _ _ (λ q. tt) (λ q. tt)))
+      pick_equal T x (packed r) _ _ (λ q. let z = empty_at g limits front back ws vs s r f q in let n = empty_seen (place_at g r) z.0 z.1 in (n.0, n.1, n.2))
+      (λ n. pick_less T r.block (x / offset_span) _ _ (λ l. l) (λ l. pick_equal T (x % offset_span) g.size _ _ (λ q. tt) (λ q. tt)))
   step_tells (Take (SeeAll r m)) e =
-      let f = knows_at g J _ _ _ _ vs v (SeeAll r m) e (s.takes_each id v here) in
+      let f = knows_at g limits front back ws vs s id v here (SeeAll r m) e in
       let x : ℕ = allocated_word g ws r.block in
       let T : After → Type 0 = Tells g w v (Take (SeeAll r m)) in
-      pick_same T x m _ _ (λ q. tt) (λ n. pick_equal T (x / offset_span) m.block _ _ (λ q. (refl, n)) (λ q. (refl, later_block r m f q)))
+      pick_same T x m _ _ (λ q. tt) (λ n. pick_equal T (x / offset_span) m.block _ _ (λ q. n) (λ q. later_block r m f q))
   step_tells (Take (Reserve r)) e =
-      let f = knows_at g J _ _ _ _ vs v (Reserve r) e (s.takes_each id v here) in
+      let f = knows_at g limits front back ws vs s id v here (Reserve r) e in
       let x : ℕ = reserved_word g ws r.block in
       pick_equal (Tells g w v (Take (Reserve r))) x (packed r) _ _ (λ q. tt)
-      (λ n. (refl, before_from r (unpacked x) (mod_below x offset_span (omega arith)) (let q = repacked x in omega (arith, f.0.known))))
+      (λ n. before_from r (unpacked x) (mod_below x offset_span (omega arith)) (let q = repacked x in omega (arith, f.0.known)))
   step_tells (Take (Read at next)) e = pick_less (Tells g w v (Take (Read at next))) (next + 1) g.width _ _ (λ l. tt) (λ l. tt)
   step_tells (Take (Consume at)) e =
-      let f = knows_at g J _ _ _ _ vs v (Consume at) e (s.takes_each id v here) in (
+      let f = knows_at g limits front back ws vs s id v here (Consume at) e in (
         record {
           at_end = refl;
-          beyond = All-from_recursion (λ (q : ℕ). q < place_at g at) (places v.taken) (rising_below (place_at g at) (places v.taken) (subst IsRising (ap (λ (ph : Option Phase). places v.taken ++ reading g ph) e) (s.takes_each id v here).rising));
+          beyond = All-from_recursion (λ (q : ℕ). q < place_at g at) (places v.taken) (rising_below (place_at g at) (places v.taken) (subst IsRising (ap (λ (ph : Option Phase). places v.taken ++ reading g ph) e) (s.each id v here).rising));
         },
         λ words own. own_item (place_at g at) words v.read f.1 own,
       )
   step_tells (Take (NextCom sp)) e =
-      let f = knows_at g J _ _ _ _ vs v (NextCom sp) e (s.takes_each id v here) in
+      let f = knows_at g limits front back ws vs s id v here (NextCom sp) e in
       let p : ℕ = (sp.block + 1 - g.blocks) * g.size in
       pick_less (Tells g w v (Take (NextCom sp))) (committed_word g ws (sp.block + 1) / offset_span) (sp.block + 1) _ _
-      (λ l. let z = empty_past g K J a t ws vs sp limits s f l in let m = made_once g K J a t ws vs p s in let n = none_from p a (omega (arith, z.0, z.1)) in let x = empty_seen p (omega (arith, z.0)) (omega arith) in (refl, x.0, x.1, x.2))
+      (λ l. let z = empty_past g limits front back ws vs s sp f l in let m = made_once g front back ws vs s p in let n = none_from p front.next (omega (arith, z.0, z.1)) in let x = empty_seen p (omega (arith, z.0)) (omega arith) in (x.0, x.1, x.2))
       (λ l. tt)
   step_tells (Take (OpenX sp)) e = tt
   step_tells (Take (OpenR sp)) e = tt
@@ -261,5 +271,5 @@ module _ (g : Grid) (K J a t : ℕ) (ws : List ℕ) (vs : List View) (id : ℕ) 
 
 -- the same from the invariant
 pub sound_tells : (g : Grid) (ws : List ℕ) (vs : List View) (id : ℕ) (v : View) (p : Phase) → IsWithinLimits g → IsSound g ws vs → slice_get vs id ≡ Some v → v.phase ≡ Some p
-    → Tells g (record { words = ws; views = vs }) v p (after g p (slice_index ws (index (want g p v.entry))))
-sound_tells g ws vs id v p limits s here e = step_tells g s.opened s.passed s.allocated s.reserved ws vs id v limits s.at here p e
+    → Tells g (record { words = ws; views = vs }) v p (after g p (finds table g ws v p))
+sound_tells g ws vs id v p limits k here e = step_tells g k.front k.back ws vs id v limits k.sound here p e

@@ -18,10 +18,8 @@ use Rattle.bbq_core.specs.declared.phase.Phase.{Phase}
 use Rattle.bbq_core.specs.PutSteps.{after, first_put}
 use Rattle.bbq_core.specs.TakeSteps.{first_take}
 use Rattle.bbq_core.specs.Table.{is_put, reading, table}
-use Rattle.bbq_core.specs.Manned.{IsAttended}
-use Rattle.bbq_core.proofs.AttendedRuns.{sound_of}
+use Rattle.bbq_core.specs.Sound.{IsSound}
 use Rattle.bbq_core.proofs.CallTable.{call_table, reads_in_order}
-use Rattle.bbq_core.proofs.Keeping.{made_alike, taken_alike}
 use Rattle.bbq_core.proofs.Outcomes.{Tells, sound_tells}
 use Rattle.bbq_core.proofs.Promises.{HandsOut, put_promised, take_promised}
 use Rattle.bbq_core.proofs.Trails.{TrailRecalls, TrailShows, put_begins, take_begins, trail_shows}
@@ -49,7 +47,7 @@ unread : (g : Grid) (s : Reading) (a : Take) → ReadsOn table g.width s (Done (
 unread g (Word next) a on = absurd on
 unread g s a on = refl
 
-module _ (g : Grid) (ws : List ℕ) (vs : List View) (id : ℕ) (v : View) (p : Phase) (limits : IsWithinLimits g) (holds : IsAttended g ws vs) (at : slice_get vs id ≡ Some v) (here : v.phase ≡ Some p) (trail : HasTrail table g v p) where
+module _ (g : Grid) (ws : List ℕ) (vs : List View) (id : ℕ) (v : View) (p : Phase) (limits : IsWithinLimits g) (holds : IsSound g ws vs) (at : slice_get vs id ≡ Some v) (here : v.phase ≡ Some p) (trail : HasTrail table g v p) where
   abbrev old : ℕ
   old = steps.finds table g ws v p
 
@@ -57,14 +55,14 @@ module _ (g : Grid) (ws : List ℕ) (vs : List View) (id : ℕ) (v : View) (p : 
   new = steps.view_after table g ws v p
 
   tells : (b : After) → after g p old ≡ b → Tells g (record { words = ws; views = vs }) v p b
-  tells b is = subst (Tells g (record { words = ws; views = vs }) v p) is (sound_tells g ws vs id v p limits (sound_of g ws vs holds) at here)
+  tells b is = subst (Tells g (record { words = ws; views = vs }) v p) is (sound_tells g ws vs id v p limits holds at here)
 
   shows : (b : After) → after g p old ≡ b → TrailShows new.trail b
   shows b is = subst (TrailShows new.trail) is (trail_shows g v.entry v.trail p old (recalls g v p trail))
 
   promised : (a : Answer) → after g p old ≡ Done a → Promises g false v new a
   promised (answer.Put a) is =
-      subst (λ (made : List Placed). Puts g false v.entry v.made made new.trail a) (sym (made_alike g p old v.made v.entry))
+      subst (λ (made : List Placed). Puts g false v.entry v.made made new.trail a) (sym (ap (steps.made_after v.made v.entry) is))
       (put_promised g (record { words = ws; views = vs }) v p new.trail a (tells (Done (answer.Put a)) is) (shows (Done (answer.Put a)) is))
   promised (answer.Take a) is =
       let made : v.made ≡ new.made = sym (ap (steps.made_after v.made v.entry) is) in
@@ -74,7 +72,7 @@ module _ (g : Grid) (ws : List ℕ) (vs : List View) (id : ℕ) (v : View) (p : 
       let t = take_promised g (record { words = ws; views = vs }) v p new.trail v.read v.read a (tells (Done (answer.Take a)) is) (shows (Done (answer.Take a)) is) (hands_same v.read a) in
       subst (λ (items : List Placed). Takes g false items new.read new.read v.taken new.taken new.trail a) made
       (subst (λ (words : List ℕ). Takes g false v.made words words v.taken new.taken new.trail a) read
-      (subst (λ (taken : List Placed). Takes g false v.made v.read v.read v.taken taken new.trail a) (sym (taken_alike g p old v.taken v.read)) t))
+      (subst (λ (taken : List Placed). Takes g false v.made v.read v.read v.taken taken new.trail a) (sym (ap (steps.taken_after v.taken v.read) is)) t))
 
-pub keeps_promises : KeepsPromises table IsAttended false
+pub keeps_promises : KeepsPromises table IsSound false
 keeps_promises g ws vs id v p a limits holds few at here trail is = promised g ws vs id v p limits holds at here trail a is

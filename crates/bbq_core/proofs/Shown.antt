@@ -25,7 +25,10 @@ use Rattle.bbq_core.specs.TakeSteps.{first_take}
 use Rattle.bbq_core.specs.Causes.{BusyShown, Differ, EmptyShown, FullShown, PutPair, TakePair}
 use Rattle.bbq_core.specs.Moments.{EmptyAt, FullAt}
 use Rattle.bbq_core.specs.Sound.{IsSound}
-use Rattle.bbq_core.proofs.Quiet.{fits_at}
+use Rattle.put_side.specs.PutTable.{stage_in}
+use Rattle.put_side.specs.Stages as stages
+use Rattle.put_side.proofs.Loads as put_loads
+use Rattle.bbq_core.specs.Stage.{stage, stage_of}
 use Rattle.bbq_core.proofs.Outcomes.{Tells, full_seen, sound_tells}
 use Rattle.bbq_core.proofs.Recalled.{BusyFound, Recalls, ShowsNext, step_shows, taken_step}
 use Rattle.bbq_core.proofs.Reached.{moment_sound}
@@ -68,7 +71,7 @@ module _ (g : Grid) (events : List Event) (limits : IsWithinLimits g) (suits : A
         let s : IsSound g w.words w.views = moment_sound g events limits suits few n in
         let seen : (full : Cursor) → p ≡ SeeX full → old < older_consumed g full.block → WasFull g events n full.block (unpacked old) =
         λ full is. subst (λ (q : Phase). finds table g w.words v q < older_consumed g full.block → WasFull g events n full.block (unpacked (finds table g w.words v q))) (sym is)
-        (λ l. full_seen g s.opened s.passed s.allocated s.reserved w.words w.views id v limits s.at at full (fits_at g s.opened _ _ _ _ w.words v (SeeX full) (e ∙ ap Some is) (s.at.each id v at)) l) in
+        (λ l. full_seen g s.front s.back w.words w.views id v limits s.sound at full (put_loads.knows_at stage_of g s.front w.words w.views id v v s.sound.puts.places at (stages.Fills full) (ap (stage_in stage) (e ∙ ap Some is))) l) in
         with_told steps (taken_step g v.entry n p old) v (after g p old) (step_shows (WasFull g events) g v.entry n steps p old r seen) (sound_tells g w.words w.views id v p limits s at e)
 
   abbrev First : ℕ → View → List CallStep → Phase → Type 0
@@ -120,14 +123,14 @@ module _ (g : Grid) (events : List Event) (limits : IsWithinLimits g) (suits : A
         last = s.last;
         in_order = s.in_order;
         is_last = s.is_last;
-        was_empty = subst (λ (n : ℕ). EmptyAt g (moment table g events n) p) (sym at) l.shows.tells.1;
+        was_empty = subst (λ (n : ℕ). EmptyAt g (moment table g events n) p) (sym at) l.shows.tells.0;
       }
 
   pub put_busy : (i seat : ℕ) (reason : Why) → EndsAt table g events i seat (answer.Put (put.Busy reason)) → BusyShown (PutPair g reason) (steps_of table g events seat (suc i)) reason
-  put_busy i seat reason x = let l = last i seat _ x in subst (λ (steps : List CallStep). BusyShown (PutPair g reason) steps reason) (sym l.whole) (busy_shown (PutPair g reason) (l.before ++ l.last ∷ []) l.last reason l.shows.shows l.shows.tells.1)
+  put_busy i seat reason x = let l = last i seat _ x in subst (λ (steps : List CallStep). BusyShown (PutPair g reason) steps reason) (sym l.whole) (busy_shown (PutPair g reason) (l.before ++ l.last ∷ []) l.last reason l.shows.shows l.shows.tells)
 
   pub take_busy : (i seat : ℕ) (reason : Why) → EndsAt table g events i seat (answer.Take (take.Busy reason)) → BusyShown (TakePair reason) (steps_of table g events seat (suc i)) reason
-  take_busy i seat reason x = let l = last i seat _ x in subst (λ (steps : List CallStep). BusyShown (TakePair reason) steps reason) (sym l.whole) (busy_shown (TakePair reason) (l.before ++ l.last ∷ []) l.last reason l.shows.shows l.shows.tells.1)
+  take_busy i seat reason x = let l = last i seat _ x in subst (λ (steps : List CallStep). BusyShown (TakePair reason) steps reason) (sym l.whole) (busy_shown (TakePair reason) (l.before ++ l.last ∷ []) l.last reason l.shows.shows l.shows.tells)
 
   pub no_overrun : (i seat p : ℕ) (now : Cursor) → EndsAt table g events i seat (answer.Take (take.Overrun p now)) → ⊥
   no_overrun i seat p now x = (last i seat _ x).shows.tells

@@ -13,11 +13,11 @@ use Rattle.machine.specs.declared.op.After.TheVariants.{Next, Done}
 use Rattle.bbq_core.specs.PutSteps.{IsInRange, after, filled, older_consumed, rank}
 use Rattle.bbq_core.specs.TakeSteps.{by_turn, is_same, passed}
 use Rattle.bbq_core.specs.Laws.{steps_of_answer, steps_of_phase}
-use Rattle.bbq_core.proofs.Views.{by_test_le}
+use Rattle.put_side.proofs.Sums.{by_test_le}
 use Rattle.machine.specs.Bounds as bounds
 use Rattle.machine.specs.Bounds.{IsBounded}
 use Rattle.bbq_core.specs.Table.{table}
-use Rattle.bbq_core.proofs.TakeLoads.{by_equal, pick_equal, pick_less, pick_same}
+use Rattle.bbq_core.proofs.Loads.{by_equal, pick_equal, pick_less, pick_same}
 
 abbrev Leads : Grid → ℕ → ℕ → After → Type 0
 Leads g high most b = bounds.Leads (rank g) (steps_of_phase g) (steps_of_answer g) high most b

@@ -2,13 +2,12 @@ pub mod TakeSteps
 pub mod PutSteps
 pub mod Types
 pub mod Table
-pub mod Machine
-pub mod Blocks
+pub mod Stage
+pub mod Cursors
 pub mod Counts
 pub mod Sound
 pub mod Laws
 pub mod Gathered
-pub mod Manned
 pub mod Alone
 pub mod Moments
 pub mod Causes

@@ -1,162 +1,173 @@
 -- The invariant: what holds between any two steps, of the words and the views of all seats.
-use Rattle.std.specs.Prelude.{◌≡◌, ℕ, ◌+◌, ◌*◌, ◌/◌, ◌%◌, ◌<◌, ◌≤◌, ◌⊎◌, List, Option, Some, None, length, slice_get, slice_index, take, []}
+use Rattle.std.specs.Prelude.{◌≡◌, ℕ, ◌+◌, ◌*◌, ◌/◌, ◌<◌, ◌≤◌, ◌⊎◌, List, [], Option, Some, slice_get, take}
 use Rattle.std.specs.List.{AllByRecursion, sum_by}
 use Rattle.cursor_word.specs.Shape.{Grid}
 use Rattle.cursor_word.specs.Cursor.{offset_span, packed, place_at}
-use Rattle.cursor_word.specs.Layout.{entry_index, word_count}
 use Rattle.cursor_word.specs.declared.cursor.Cursor.{Cursor}
 use Rattle.rail.specs.declared.entry.Placed.{Placed}
 use Rattle.rail.specs.Items.{IsRising, placed, places}
+use Rattle.put_side.specs.Cursors.{Front, committed_word, place, put_cursors}
+use Rattle.put_side.specs.Counts.{makes, one_at}
+use Rattle.put_side.specs.Places.{IsCurrent}
+use Rattle.put_side.specs.Entries.{IsMade}
+use Rattle.put_side.specs.PutSide.{PutSide}
+use Rattle.put_side.specs.Manned as puts
 use Rattle.bbq_core.specs.declared.phase.Phase.{Phase}
-use Rattle.bbq_core.specs.declared.phase.Phase.TheVariants.{HeadP, SeeA, AddA, Write, Commit, SeeX, SeeR, OpenM, OpenA, RaiseP, Take}
+use Rattle.bbq_core.specs.declared.phase.Phase.TheVariants.{SeeR, OpenM, Take}
 use Rattle.bbq_core.specs.declared.take_phase.TakePhase.{TakePhase}
 use Rattle.bbq_core.specs.declared.take_phase.TakePhase.TheVariants.{HeadC, SeeRes, SeeCom, SeeAll, Reserve, Read, Consume, NextCom, OpenX, OpenR, RaiseC}
 use Rattle.bbq_core.specs.Types.{View}
-use Rattle.bbq_core.specs.PutSteps.{FindsFit, IsInRange, older_consumed, want}
-use Rattle.machine.specs.Ops.{index}
-use Rattle.bbq_core.specs.Blocks.{PutWords, TakeWords, allocated_word, committed_word, consumed_word, place, reserved_word}
-use Rattle.bbq_core.specs.Counts.{Counts, claimed, fetched, makes, reading_in}
+use Rattle.bbq_core.specs.PutSteps.{older_consumed}
+use Rattle.bbq_core.specs.Stage.{stage_of}
+use Rattle.bbq_core.specs.Cursors.{TakeCursors, TakeWords, consumed_word, reserved_word, take_cursors}
+use Rattle.bbq_core.specs.Counts.{TakeCounts, fetched, reading_in}
 
--- a filled cursor that was found
-pub record IsFilled (g : Grid) (A : ℕ → ℕ) (full : Cursor) : Type 0 where
-  pub from : g.blocks ≤ full.block
-  pub filled : g.size ≤ full.offset
-  pub fits : full.offset < offset_span
-  pub known : packed full ≤ A full.block
+-- what a seat may remember something of: the last block opened to takes, the cursors that takes
+-- move, the committed cursors, and what all seats have made
+pub record Scene : Type 0 where
+  pub passed : ℕ
+  pub cursors : TakeCursors
+  pub committed : ℕ → ℕ
+  pub views : List View
 
--- a held cursor lies in a block that is not reused
-pub record IsCurrent (g : Grid) (K : ℕ) (at : Cursor) : Type 0 where
-  pub from : g.blocks ≤ at.block
-  pub to : at.block ≤ K
-  pub near : K < at.block + g.blocks
-  pub within : at.offset < g.size
-
--- in the second turn of a put: the cursor that was filled in the first, of a block below the head
-abbrev pub TurnFits : Grid → ℕ → Cursor → ℕ → Type 0
-TurnFits g turn first bound = (turn ≡ 1) ⊎ ((turn ≡ 2) × (g.blocks ≤ first.block) × (g.size ≤ first.offset) × (first.block < bound))
-
--- what a seat in a put remembers, by its phase
-abbrev pub PutKnows : Grid → ℕ → ℕ → (ℕ → ℕ) → (ℕ → ℕ) → (ℕ → ℕ) → List Placed → Option Phase → Type 0
-PutKnows g K P A M X made None = Unit {0}
-PutKnows g K P A M X made (Some (HeadP turn first)) = TurnFits g turn first P
-PutKnows g K P A M X made (Some (SeeA turn first head)) = TurnFits g turn first head × (g.blocks ≤ head) × (head ≤ P)
-PutKnows g K P A M X made (Some (AddA turn first head)) = TurnFits g turn first head × (g.blocks ≤ head) × (head ≤ P)
-PutKnows g K P A M X made (Some (Write at next)) = IsCurrent g K at × (next < g.width)
-PutKnows g K P A M X made (Some (Commit at)) = IsCurrent g K at
-PutKnows g K P A M X made (Some (SeeX full)) = IsFilled g A full
-PutKnows g K P A M X made (Some (SeeR full x)) = IsFilled g A full × (packed x < older_consumed g full.block) × AllByRecursion (λ q. q < place g (full.block + 1) 0) (places made)
-PutKnows g K P A M X made (Some (OpenM full)) = IsFilled g A full × (older_consumed g full.block ≤ X (full.block + 1))
-PutKnows g K P A M X made (Some (OpenA full)) = IsFilled g A full × ((full.block + 1) * offset_span ≤ M (full.block + 1))
-PutKnows g K P A M X made (Some (RaiseP full)) = IsFilled g A full × ((full.block + 1) * offset_span ≤ A (full.block + 1))
-PutKnows g K P A M X made (Some (Take q)) = Unit {0}
-
--- the first n words at an offset of a block are these
-abbrev pub HasWords : Grid → List ℕ → ℕ → ℕ → List ℕ → ℕ → Type 0
-HasWords g ws k o words n = (w : ℕ) → w < n → slice_index ws (entry_index g (k % g.blocks) o w) ≡ slice_index words w
-
--- what a put has written of its entry
-abbrev pub HoldsWords : Grid → List ℕ → List ℕ → Option Phase → Type 0
-HoldsWords g ws entry (Some (Write at next)) = HasWords g ws at.block at.offset entry next
-HoldsWords g ws entry (Some (Commit at)) = HasWords g ws at.block at.offset entry g.width
-HoldsWords g ws entry ph = Unit {0}
-
--- a seat on the side of puts: what it remembers, its places rise, and its entries stand in the words of blocks that are not reused
-pub record PutFits (g : Grid) (K P : ℕ) (A M X : ℕ → ℕ) (ws : List ℕ) (v : View) : Type 0 where
-  pub phase_fits : PutKnows g K P A M X v.made v.phase
-  pub rising : IsRising (claimed g v)
-  pub wide : length v.entry ≡ g.width
-  pub made_words : (i : ℕ) (item : Placed) → slice_get v.made i ≡ Some item → K < g.blocks + item.place / g.size + g.blocks
-      → HasWords g ws (g.blocks + item.place / g.size) (item.place % g.size) item.words g.width
-  pub held_words : HoldsWords g ws v.entry v.phase
-  pub made_wide : (i : ℕ) (item : Placed) → slice_get v.made i ≡ Some item → length item.words ≡ g.width
-
--- the item stands in the made list of some seat
-pub record IsMade (vs : List View) (item : Placed) : Type 0 where
-  pub seat : ℕ
-  pub view : View
-  pub at : slice_get vs seat ≡ Some view
-  pub number : ℕ
-  pub there : slice_get view.made number ≡ Some item
+abbrev pub scene : Grid → Front → List ℕ → List View → Scene
+scene shape back words views = record {
+  passed = back.last;
+  cursors = take_cursors shape words;
+  committed = committed_word shape words;
+  views = views;
+}
 
 -- a reserved cursor that was found
-pub record IsReserved (g : Grid) (R : ℕ → ℕ) (r : Cursor) : Type 0 where
-  pub from : g.blocks ≤ r.block
-  pub within : r.offset < g.size
-  pub known : packed r ≤ R r.block
+pub record IsReserved (shape : Grid) (cursors : TakeCursors) (r : Cursor) : Type 0 where
+  pub from : shape.blocks ≤ r.block
+  pub within : r.offset < shape.size
+  pub known : packed r ≤ cursors.reserved r.block
+
+-- a committed cursor beyond it that was found
+pub record IsAhead (shape : Grid) (committed : ℕ → ℕ) (r m : Cursor) : Type 0 where
+  pub same : m.block ≡ r.block
+  pub above : r.offset < m.offset
+  pub within : m.offset < shape.size
+  pub known : packed m ≤ committed r.block
 
 -- a spent cursor that was found
-pub record IsPassed (g : Grid) (R : ℕ → ℕ) (sp : Cursor) : Type 0 where
-  pub from : g.blocks ≤ sp.block
-  pub full : sp.offset ≡ g.size
-  pub known : packed sp ≤ R sp.block
+pub record IsPassed (shape : Grid) (cursors : TakeCursors) (spent : Cursor) : Type 0 where
+  pub from : shape.blocks ≤ spent.block
+  pub full : spent.offset ≡ shape.size
+  pub known : packed spent ≤ cursors.reserved spent.block
 
 -- all places of a block up to an offset are made
 abbrev pub MadeTo : Grid → List View → ℕ → ℕ → Type 0
-MadeTo g vs k n = (o : ℕ) → o ≤ n → 1 ≤ sum_by (makes (place g k o)) vs
+MadeTo shape views block last = (offset : ℕ) → offset ≤ last
+    → 1 ≤ sum_by (makes (place shape block offset)) views
 
--- the first n words of an item that was made at this place
-pub record IsReadOf (g : Grid) (vs : List View) (p n : ℕ) (read : List ℕ) : Type 0 where
+-- the first words of an item that was made at this place
+pub record IsReadOf (shape : Grid) (views : List View) (p count : ℕ) (read : List ℕ) : Type 0 where
   pub words : List ℕ
-  pub made : IsMade vs (placed p words)
-  pub front : read ≡ take n words
+  pub made : IsMade views (placed p words)
+  pub front : read ≡ take count words
 
--- in the second turn of a take: the cursor that was spent in the first
+-- in the second turn of a take: the cursor that was found spent in the first, of a block below the
+-- head
+pub record IsSecondTake (shape : Grid) (turn : ℕ) (first : Cursor) (head : ℕ) : Type 0 where
+  pub is : turn ≡ 2
+  pub from : shape.blocks ≤ first.block
+  pub full : first.offset ≡ shape.size
+  pub below : first.block < head
+
 abbrev pub TakeTurn : Grid → ℕ → Cursor → ℕ → Type 0
-TakeTurn g turn first bound = (turn ≡ 1) ⊎ ((turn ≡ 2) × (g.blocks ≤ first.block) × (first.offset ≡ g.size) × (first.block < bound))
+TakeTurn shape turn first head = (turn ≡ 1) ⊎ IsSecondTake shape turn first head
 
--- what a seat in a take remembers, by its phase
-abbrev pub TakeKnows : Grid → ℕ → ℕ → (ℕ → ℕ) → (ℕ → ℕ) → (ℕ → ℕ) → List View → List ℕ → TakePhase → Type 0
-TakeKnows g J C M R X vs read (HeadC turn first) = TakeTurn g turn first C
-TakeKnows g J C M R X vs read (SeeRes turn first head) = TakeTurn g turn first head × (g.blocks ≤ head) × (head ≤ C)
-TakeKnows g J C M R X vs read (SeeCom r) = IsReserved g R r
-TakeKnows g J C M R X vs read (SeeAll r m) = IsReserved g R r × (m.block ≡ r.block) × (r.offset < m.offset) × (m.offset < g.size) × (packed m ≤ M r.block)
-TakeKnows g J C M R X vs read (Reserve r) = IsReserved g R r × MadeTo g vs r.block r.offset
-TakeKnows g J C M R X vs read (Read at next) = IsCurrent g J at × (next < g.width) × IsReadOf g vs (place_at g at) next read
-TakeKnows g J C M R X vs read (Consume at) = IsCurrent g J at × IsMade vs (placed (place_at g at) read)
-TakeKnows g J C M R X vs read (NextCom sp) = IsPassed g R sp
-TakeKnows g J C M R X vs read (OpenX sp) = IsPassed g R sp × ((sp.block + 1) * offset_span ≤ M (sp.block + 1))
-TakeKnows g J C M R X vs read (OpenR sp) = IsPassed g R sp × ((sp.block + 1) * offset_span ≤ X (sp.block + 1))
-TakeKnows g J C M R X vs read (RaiseC sp) = IsPassed g R sp × ((sp.block + 1) * offset_span ≤ R (sp.block + 1))
+-- the block after a spent one was opened, as this cursor of it tells
+abbrev pub IsOpened : Cursor → (ℕ → ℕ) → Type 0
+IsOpened spent cursor = (spent.block + 1) * offset_span ≤ cursor (spent.block + 1)
 
--- a seat that is in no take remembers nothing of it
-abbrev pub TakerKnows : Grid → ℕ → ℕ → (ℕ → ℕ) → (ℕ → ℕ) → (ℕ → ℕ) → List View → List ℕ → Option Phase → Type 0
-TakerKnows g J C M R X vs read (Some (Take q)) = TakeKnows g J C M R X vs read q
-TakerKnows g J C M R X vs read ph = Unit {0}
+-- what a seat in a take remembers, where these are the words that it has read
+abbrev pub TakeKnows : Grid → Scene → List ℕ → TakePhase → Type 0
+TakeKnows shape s read (HeadC turn first) = TakeTurn shape turn first s.cursors.consumer
+TakeKnows shape s read (SeeRes turn first head) =
+    TakeTurn shape turn first head × (shape.blocks ≤ head) × (head ≤ s.cursors.consumer)
+TakeKnows shape s read (SeeCom r) = IsReserved shape s.cursors r
+TakeKnows shape s read (SeeAll r m) =
+    IsReserved shape s.cursors r × IsAhead shape s.committed r m
+TakeKnows shape s read (Reserve r) =
+    IsReserved shape s.cursors r × MadeTo shape s.views r.block r.offset
+TakeKnows shape s read (Read at next) =
+    IsCurrent shape s.passed at × (next < shape.width)
+    × IsReadOf shape s.views (place_at shape at) next read
+TakeKnows shape s read (Consume at) =
+    IsCurrent shape s.passed at × IsMade s.views (placed (place_at shape at) read)
+TakeKnows shape s read (NextCom spent) = IsPassed shape s.cursors spent
+TakeKnows shape s read (OpenX spent) =
+    IsPassed shape s.cursors spent × IsOpened spent s.committed
+TakeKnows shape s read (OpenR spent) =
+    IsPassed shape s.cursors spent × IsOpened spent s.cursors.consumed
+TakeKnows shape s read (RaiseC spent) =
+    IsPassed shape s.cursors spent × IsOpened spent s.cursors.reserved
 
--- a seat on the side of takes: what it remembers, its places rise, and what it took was made
-pub record TakeFits (g : Grid) (J C : ℕ) (M R X : ℕ → ℕ) (vs : List View) (v : View) : Type 0 where
-  pub phase_fits : TakerKnows g J C M R X vs v.read v.phase
-  pub rising : IsRising (fetched g v)
-  pub items : (i : ℕ) (item : Placed) → slice_get v.taken i ≡ Some item → IsMade vs item
+-- What a seat remembers besides what the side of puts says. A put that found a filled block: the
+-- older block in the next one's place was found wholly consumed, or not, and then all that the seat
+-- made lies up to the filled one.
+abbrev pub Knows : Grid → Scene → List Placed → List ℕ → Option Phase → Type 0
+Knows shape s made read (Some (SeeR full x)) =
+    (packed x < older_consumed shape full.block)
+    × AllByRecursion (λ q. q < place shape (full.block + 1) 0) (places made)
+Knows shape s made read (Some (OpenM full)) =
+    older_consumed shape full.block ≤ s.cursors.consumed (full.block + 1)
+Knows shape s made read (Some (Take q)) = TakeKnows shape s read q
+Knows shape s made read phase = Unit {0}
+
+-- one seat: what it remembers, the places that it has taken or reads rise, and what it took was
+-- made
+pub record TakeFits (shape : Grid) (s : Scene) (view : View) : Type 0 where
+  pub knows : Knows shape s view.made view.read view.phase
+  pub rising : IsRising (fetched shape view)
+  pub items : (i : ℕ) (item : Placed)
+      → slice_get view.taken i ≡ Some item → IsMade s.views item
   -- a take that has reserved no place yet has read nothing
-  pub unread : (q : TakePhase) → v.phase ≡ Some (Take q) → reading_in g q ≡ [] → v.read ≡ []
+  pub unread : (q : TakePhase) → view.phase ≡ Some (Take q)
+      → reading_in shape q ≡ [] → view.read ≡ []
 
--- the invariant, where K and J are the last blocks opened to puts and to takes, a places are allocated and t reserved
-pub record IsSoundAt (g : Grid) (K J a t : ℕ) (ws : List ℕ) (vs : List View) : Type 0 where
-  pub all : length ws ≡ word_count g
-  pub few : length vs ≤ g.seats
-  pub puts : PutWords g K a (slice_index ws 0) (allocated_word g ws) (committed_word g ws)
-  pub takes : TakeWords g K J t (slice_index ws 1) (reserved_word g ws) (consumed_word g ws)
-  pub counts : Counts g K J a t (allocated_word g ws) (committed_word g ws) (consumed_word g ws) vs
-  pub each : (j : ℕ) (u : View) → slice_get vs j ≡ Some u → PutFits g K (slice_index ws 0) (allocated_word g ws) (committed_word g ws) (consumed_word g ws) ws u
-  pub takes_each : (j : ℕ) (u : View) → slice_get vs j ≡ Some u → TakeFits g J (slice_index ws 1) (committed_word g ws) (reserved_word g ws) (consumed_word g ws) vs u
+-- puts and takes, where they have come this far
+pub record IsSoundAt (shape : Grid) (front back : Front) (words : List ℕ) (views : List View)
+    : Type 0 where
+  pub puts : PutSide stage_of shape front words views
+  pub takes : TakeWords shape front.last back (take_cursors shape words)
+  pub counts : TakeCounts shape back (take_cursors shape words) views
+  pub each : (seat : ℕ) (view : View) → slice_get views seat ≡ Some view
+      → TakeFits shape (scene shape back words views) view
 
--- the invariant, for some last blocks opened and some numbers of places
-pub record IsSound (g : Grid) (ws : List ℕ) (vs : List View) : Type 0 where
-  pub opened : ℕ
-  pub passed : ℕ
-  pub allocated : ℕ
-  pub reserved : ℕ
-  pub at : IsSoundAt g opened passed allocated reserved ws vs
+-- 1 for a take that is about to open the reserved cursor of a block, else 0
+abbrev pub opens_reserved : ℕ → Option Phase → ℕ
+opens_reserved block (Some (Take (OpenR spent))) = one_at (spent.block + 1) block
+opens_reserved block phase = 0
 
--- where a take ends it has read the words of an entry
-abbrev pub IsRead : Grid → Phase → List ℕ → Type 0
-IsRead g (Take (Consume at)) read = length read ≡ g.width
-IsRead g p read = Unit {0}
+-- 1 for a take that is on its way to raise the consumer head to a block
+abbrev pub raises_consumer : ℕ → Option Phase → ℕ
+raises_consumer block (Some (Take (OpenR spent))) = one_at (spent.block + 1) block
+raises_consumer block (Some (Take (RaiseC spent))) = one_at (spent.block + 1) block
+raises_consumer block phase = 0
 
--- what a step needs: a phase in range, which finds a value in range, and an entry of the right width
-pub record CanStep (g : Grid) (ws : List ℕ) (v : View) (p : Phase) : Type 0 where
-  pub range : IsInRange g p
-  pub found : FindsFit p (slice_index ws (index (want g p v.entry)))
-  pub wide : length v.entry ≡ g.width
-  pub read : IsRead g p v.read
+abbrev pub in_all : (Option Phase → ℕ) → List View → ℕ
+in_all f views = sum_by (λ (view : View). f view.phase) views
+
+-- who is at work where a cursor or a head lags behind the last block that was opened to puts or to
+-- takes
+pub record IsManned (shape : Grid) (front back : Front) (words : List ℕ) (views : List View)
+    : Type 0 where
+  pub puts : puts.IsManned stage_of shape front (put_cursors shape words) views
+  pub reserved : (reserved_word shape words back.last / offset_span ≡ back.last)
+      ⊎ (1 ≤ in_all (opens_reserved back.last) views)
+  pub consumer : ((take_cursors shape words).consumer ≡ back.last)
+      ⊎ (1 ≤ in_all (raises_consumer back.last) views)
+  -- the blocks before the first hold no entry, and stand as consumed
+  pub before : (block : ℕ) → block < shape.blocks
+      → block * offset_span + shape.size ≤ consumed_word shape words block
+
+-- the invariant: puts and takes have come so far
+pub record IsSound (shape : Grid) (words : List ℕ) (views : List View) : Type 0 where
+  pub front : Front
+  pub back : Front
+  pub sound : IsSoundAt shape front back words views
+  pub manned : IsManned shape front back words views

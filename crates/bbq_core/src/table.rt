@@ -1,7 +1,7 @@
 //! The phases as those of a machine.
 ghost use Rattle.std.specs.Prelude.{◌≡◌};
 ghost use Rattle.bbq_core.specs.Table.{table};
-ghost use Rattle.bbq_core.specs.Manned.{IsAttended};
+ghost use Rattle.bbq_core.specs.Sound.{IsSound};
 
 use crate::phase::{Phase, after, first_put, want};
 use crate::take_phase::{TakePhase, first_take};
@@ -12,7 +12,7 @@ use rail::Batch;
 impl machine::Phase for Phase {
     ghost table = { table };
 
-    ghost Holds = { IsAttended };
+    ghost Holds = { IsSound };
 
     #[inline(always)]
     fn first_put() -> Phase {

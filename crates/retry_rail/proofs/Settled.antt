@@ -15,10 +15,10 @@ use Rattle.bbq_core.specs.declared.phase.Phase.{Phase}
 use Rattle.bbq_core.specs.Types.{View}
 use Rattle.bbq_core.specs.Counts.{taken_total}
 use Rattle.machine.specs.Invariant.{made_total}
-use Rattle.bbq_core.specs.Gathered.{IsSettled, all_made, all_taken}
-use Rattle.bbq_core.specs.Manned.{IsAttended}
+use Rattle.put_side.specs.Gathered.{all_made, all_taken}
+use Rattle.bbq_core.specs.Gathered.{IsSettled}
+use Rattle.bbq_core.specs.Sound.{IsSound}
 use Rattle.bbq_core.specs.Table.{table}
-use Rattle.bbq_core.proofs.AttendedRuns.{sound_of}
 use Rattle.bbq_core.proofs.Settles.{settled}
 use Rattle.call_laws.specs.Left.{left_in}
 use Rattle.call_steps.specs.Queue.{Seated}
@@ -27,12 +27,12 @@ use Rattle.shared_seats.proofs.Ordered.{ordered}
 use Rattle.shared_seats.proofs.Stepped.{few_places}
 use Rattle.retry_rail.specs.Closed.{first_taken}
 
-module _ (g : Grid) (words : List ℕ) (seats : List (Seated Phase)) (stopped : HasStopped table IsAttended g words (views_of_all seats)) where
+module _ (g : Grid) (words : List ℕ) (seats : List (Seated Phase)) (stopped : HasStopped table IsSound g words (views_of_all seats)) where
   abbrev vs : List View
   vs = views_of_all seats
 
   s : IsSettled g (record { words = words; views = vs })
-  s = settled g (record { words = words; views = vs }) stopped.limits (sound_of g words vs stopped.holds) stopped.rest
+  s = settled g (record { words = words; views = vs }) stopped.limits stopped.holds stopped.rest
 
   made_is : all_made vs ≡ made_by_all seats
   made_is = flat_map-map (λ (v : View). v.made) (λ (x : Seated Phase). x.view) seats

@@ -20,13 +20,12 @@ use Rattle.step_log.specs.Log.{Ends, TableId}
 use Rattle.bbq_core.specs.declared.phase.Phase.{Phase}
 use Rattle.bbq_core.specs.Types.{MachineState, View}
 use Rattle.machine.specs.Invariant.{made_total}
-use Rattle.bbq_core.specs.Gathered.{all_made, all_taken}
+use Rattle.put_side.specs.Gathered.{all_made, all_taken}
 use Rattle.bbq_core.specs.Table.{table}
 use Rattle.call_laws.specs.Left.{left_in}
 use Rattle.bbq_core.specs.Sound.{IsSound}
 use Rattle.bbq_core.specs.Alone.{IsStill}
-use Rattle.bbq_core.proofs.Keeps.{sound}
-use Rattle.bbq_core.proofs.Runs.{made_rises, taken_rises}
+use Rattle.bbq_core.proofs.Reached.{made_rises, taken_rises}
 use Rattle.bbq_core.proofs.Settles.{settled}
 use Rattle.call_steps.specs.Rule.{HasRoom}
 use Rattle.solo_rail.specs.declared.holding.Holding.{Holding}
@@ -49,7 +48,7 @@ module _ (g : Grid) (v : View) (words : List ℕ) (limits : IsWithinLimits g) (s
   state = record { words = words; views = v ∷ [] }
 
   is_sound : IsSound g words (v ∷ [])
-  is_sound = sound g still.opened still.passed still.allocated still.reserved _ _ still.sound
+  is_sound = record { front = still.front; back = still.back; sound = still.sound; manned = still.manned }
 
   still_settles : length v.made ≤ place_span g → Settles g v words
   still_settles few =

@@ -19,13 +19,12 @@ use Rattle.bbq_core.specs.Types.{After, View}
 use Rattle.bbq_core.specs.PutSteps.{after, first_put, want}
 use Rattle.bbq_core.specs.TakeSteps.{first_take}
 use Rattle.bbq_core.specs.Counts.{taken_total}
-use Rattle.bbq_core.specs.Manned.{IsAttended}
+use Rattle.bbq_core.specs.Sound.{IsSound}
 use Rattle.bbq_core.specs.Alone.{GoesOnAlone, IsAlone, IsStill, gives_out}
 use Rattle.bbq_core.specs.Table.{table}
 use Rattle.bbq_core.proofs.AloneCalls.{goes_alone, put_alone, take_alone}
-use Rattle.bbq_core.proofs.Attends.{attended}
 use Rattle.bbq_core.proofs.CallTable.{call_table, reads_in_order}
-use Rattle.bbq_core.proofs.Keeping.{can, seen_alike}
+use Rattle.bbq_core.proofs.Ready.{can_step}
 use Rattle.bbq_core.proofs.Promised.{keeps_promises}
 use Rattle.call_laws.specs.Answers.{HasTrail, Promises}
 use Rattle.call_steps.specs.Rule.{HasRoom, IsAfterInRange, MayDo, Moves, RunsCalls, in_call, in_phase, logged, value_of}
@@ -41,14 +40,14 @@ pub taken_one : (v : View) → taken_total (v ∷ []) ≡ length v.taken
 taken_one v = omega (arith, sum_by-cons (λ (u : View). length u.taken) v [])
 
 -- the seat in a call, alone
-begins_alone : (g : Grid) (words : List ℕ) (v : View) (s : Start) (ph : Option Phase) (p : Phase) → v.phase ≡ ph → MayDo g v s → Stands g words v ph → (begun table g v ph s).phase ≡ Some p
+begins_alone : (g : Grid) (limits : IsWithinLimits g) (words : List ℕ) (v : View) (s : Start) (ph : Option Phase) (p : Phase) → v.phase ≡ ph → MayDo g v s → Stands g words v ph → (begun table g v ph s).phase ≡ Some p
     → IsAlone g (length (begun table g v ph s).made) (length (begun table g v ph s).taken) words (begun table g v ph s ∷ []) 0 p
-begins_alone g words v s (Some q) p is may alone here = let e : q ≡ p = cc in subst (IsAlone g (length v.made) (length v.taken) words (v ∷ []) 0) e alone
-begins_alone g words v (start.Put entry) None p is may still here =
-    let e : first_put ≡ p = cc in subst (IsAlone g (length v.made) (length v.taken) words (begun table g v None (start.Put entry) ∷ []) 0) e (put_alone g (length v.made) (length v.taken) words (v ∷ []) 0 v entry still refl may.0)
-begins_alone g words v start.Take None p is may still here =
-    let e : first_take ≡ p = cc in subst (IsAlone g (length v.made) (length v.taken) words (begun table g v None start.Take ∷ []) 0) e (take_alone g (length v.made) (length v.taken) words (v ∷ []) 0 v still refl)
-begins_alone g words v start.Go None p is may still here = absurd may
+begins_alone g limits words v s (Some q) p is may alone here = let e : q ≡ p = cc in subst (IsAlone g (length v.made) (length v.taken) words (v ∷ []) 0) e alone
+begins_alone g limits words v (start.Put entry) None p is may still here =
+    let e : first_put ≡ p = cc in subst (IsAlone g (length v.made) (length v.taken) words (begun table g v None (start.Put entry) ∷ []) 0) e (put_alone g limits (length v.made) (length v.taken) words (v ∷ []) 0 v still refl entry may.0)
+begins_alone g limits words v start.Take None p is may still here =
+    let e : first_take ≡ p = cc in subst (IsAlone g (length v.made) (length v.taken) words (begun table g v None start.Take ∷ []) 0) e (take_alone g limits (length v.made) (length v.taken) words (v ∷ []) 0 v still refl)
+begins_alone g limits words v start.Go None p is may still here = absurd may
 
 -- where the seat stands after a step, by its own lists
 stands_by : (g : Grid) (n t : ℕ) (words : List ℕ) (w : View) (b : After) → GoesOnAlone g n t words (w ∷ []) 0 b → Stands g words w (phase_after b)
@@ -74,7 +73,7 @@ module _ (g : Grid) (words : List ℕ) (u : View) (p : Phase) (limits : IsWithin
   GoesOn w = GoesOnAlone g (length u.made) (length u.taken) (words_after table g words u p) (w ∷ []) 0 (after g p word)
 
   goes : GoesOn next
-  goes = subst GoesOn (seen_alike g u p word) (goes_alone g (length u.made) (length u.taken) words (u ∷ []) 0 u p limits alone (let f = few_made g u room in let e = made_one u in omega arith) refl here)
+  goes = goes_alone g (length u.made) (length u.taken) words (u ∷ []) 0 u p limits alone (let f = few_made g u room in let e = made_one u in omega arith) refl here
 
   room_next : HasRoom table g next
   room_next = room_seen table call_table g u p word here room
@@ -84,12 +83,12 @@ module _ (g : Grid) (words : List ℕ) (u : View) (p : Phase) (limits : IsWithin
 
   range_by : (b : After) → after g p word ≡ b → GoesOnAlone g (length u.made) (length u.taken) (words_after table g words u p) (next ∷ []) 0 b → IsAfterInRange table g b
   range_by (Next q) e a =
-      let holds = attended g a.opened a.passed a.allocated a.reserved (words_after table g words u p) (next ∷ []) a.sound a.manned in
-      (can g (words_after table g words u p) (next ∷ []) 0 next q limits holds (few_made g next room_next) refl (ap phase_after e)).range
+      let holds : IsSound g (words_after table g words u p) (next ∷ []) = record { front = a.front; back = a.back; sound = a.sound; manned = a.manned } in
+      (can_step g (words_after table g words u p) (next ∷ []) 0 next q limits holds (few_made g next room_next) refl (ap phase_after e)).range
   range_by (Done a) e r = tt
 
-  holds_here : IsAttended g words (u ∷ [])
-  holds_here = attended g alone.opened alone.passed alone.allocated alone.reserved words (u ∷ []) alone.sound alone.manned
+  holds_here : IsSound g words (u ∷ [])
+  holds_here = record { front = alone.front; back = alone.back; sound = alone.sound; manned = alone.manned }
 
   same_after : after g p value ≡ after g p word
   same_after = value_after table call_table g reads_in_order u p word
@@ -100,7 +99,7 @@ module _ (g : Grid) (words : List ℕ) (u : View) (p : Phase) (limits : IsWithin
   tells : TellsAlone (holding g u words) p value
   tells = record {
     may = record {
-      fits = value_fits table call_table g reads_in_order u p word (can g words (u ∷ []) 0 u p limits holds_here (few_made g u room) refl here).found;
+      fits = value_fits table call_table g reads_in_order u p word (can_step g words (u ∷ []) 0 u p limits holds_here (few_made g u room) refl here).found;
       follows = subst (IsAfterInRange table g) (sym same_after) (range_by (after g p word) refl goes);
     };
     alone = λ a e. (subst (GoesOnAlone g (length u.made) (length u.taken) (words_after table g words u p) (next ∷ []) 0) (sym same_after ∙ e) goes).0;
@@ -142,7 +141,7 @@ steps_on h s p limits room stands may here =
     let is = in_call_is h s h.view.phase in
     let b : View = begun table h.shape h.view h.view.phase s in
     let at : b.phase ≡ Some p = ap (λ (k : Holding). k.view.phase) (sym is) ∙ here in
-    let alone = begins_alone h.shape h.words h.view s h.view.phase p refl may stands at in
+    let alone = begins_alone h.shape limits h.words h.view s h.view.phase p refl may stands at in
     let room_b : HasRoom table h.shape b = room_begun table call_table h.shape h.view h.view.phase s refl may room in
     subst (Steps_on h.shape h p) (sym is)
     (does_step (holding h.shape b h.words) p (value h.shape h.words b p limits room_b at alone), held_next h.shape h.words b p limits room_b at alone, does_tell h.shape h.words b p limits room_b at alone)

@@ -1,6 +1,6 @@
 use Rattle.machine.proofs.Runs.{moment_total}
 use Rattle.bbq_core.specs.Table.{table}
-use Rattle.bbq_core.proofs.Runs.{dense, made_rises}
+use Rattle.bbq_core.proofs.Reached.{dense, made_rises}
 use Rattle.bbq_core.proofs.Reached.{moment_sound}
 use Rattle.bbq_core.proofs.Small.{words_small}
 use Rattle.bbq_core.proofs.law.law_accepted.Goals as goal
