@@ -30,7 +30,10 @@ fn answer_of(queue: &RetryRail, seats: &mut [RetrySeat], word: Option<u64>) -> A
 {
     let seat = &mut seats[0];
     match word {
-        Some(word) if RetryRail::puts(seat) < queue.shape().most_puts() => Answer::Put(queue.put(seat, &[word])),
+        Some(word) if RetryRail::puts(seat) < queue.shape().most_puts() => Answer::Put(queue.put(
+            seat,
+            &[word],
+        )),
         _ => Answer::Take(queue.take(seat, &mut [0])),
     }
 }

@@ -38,13 +38,27 @@ kind_of n = if n == 0 then Worker else Piece
 unfoldable pub event_of : List ℕ → SpanEvent
 event_of (first ∷ ts ∷ dur ∷ file ∷ piece ∷ words ∷ depth ∷ total ∷ []) =
     record {
-      kind = kind_of (first % 256); tid = first / 256; ts = ts; dur = dur; file = file;
-      piece = piece; words = words; depth = depth; total = total;
+      kind = kind_of (first % 256);
+      tid = first / 256;
+      ts = ts;
+      dur = dur;
+      file = file;
+      piece = piece;
+      words = words;
+      depth = depth;
+      total = total;
     }
 event_of _ =
     record {
-      kind = Worker; tid = 0; ts = 0; dur = 0; file = 0;
-      piece = 0; words = 0; depth = 0; total = 0;
+      kind = Worker;
+      tid = 0;
+      ts = 0;
+      dur = 0;
+      file = 0;
+      piece = 0;
+      words = 0;
+      depth = 0;
+      total = 0;
     }
 
 -- how long it was from one reading of a clock to another, 0 where the clock ran backwards

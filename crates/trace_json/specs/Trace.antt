@@ -57,7 +57,7 @@ event_data names e = event_of_kind e.kind names e
 abbrev pub thread_data : ℕ → Data
 thread_data tid =
     object (member (codes "args")
-      (object (member (codes "name") (string (codes "worker " ++ decimal tid)) no_members))
+    (object (member (codes "name") (string (codes "worker " ++ decimal tid)) no_members))
     (member (codes "name") (string (codes "thread_name"))
     (member (codes "ph") (string (codes "M"))
     (member (codes "pid") (whole 1)
@@ -113,8 +113,8 @@ abbrev pub trace_data : List (List ℕ) → ℕ → List SpanEvent → Data
 trace_data names accepted events =
     object (member (codes "displayTimeUnit") (string (codes "ms"))
     (member (codes "otherData") (object
-      (member (codes "accepted") (whole accepted)
-      (member (codes "kept") (whole (length events)) no_members)))
+    (member (codes "accepted") (whole accepted)
+    (member (codes "kept") (whole (length events)) no_members)))
     (member (codes "traceEvents") (array (items_of (trace_entries names events))) no_members)))
 
 -- the trace text: that document on one line

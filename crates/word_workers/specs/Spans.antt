@@ -40,9 +40,15 @@ pub record AreReadings (ticks : Option Ticks) (readings : List ℕ) (count : ℕ
 abbrev pub piece_span : List Piece → List (List ℕ) → ℕ → ℕ → ℕ → ℕ → ℕ → SpanEvent
 piece_span plan texts worker n total before after =
     record {
-      kind = PieceKind; tid = worker + 1; ts = before; dur = duration before after;
-      file = (piece_at plan n).file; piece = n; words = length (words_at plan texts n);
-      depth = 1; total = total;
+      kind = PieceKind;
+      tid = worker + 1;
+      ts = before;
+      dur = duration before after;
+      file = (piece_at plan n).file;
+      piece = n;
+      words = length (words_at plan texts n);
+      depth = 1;
+      total = total;
     }
 
 -- the span of a worker that counted these pieces between two readings
@@ -50,8 +56,15 @@ abbrev pub worker_span : List Piece → List (List ℕ) → ℕ → List ℕ →
 worker_span plan texts worker drawn before after =
     let words = word_total plan texts drawn in
     record {
-      kind = Worker; tid = worker + 1; ts = before; dur = duration before after;
-      file = 0; piece = length drawn; words = words; depth = 0; total = words;
+      kind = Worker;
+      tid = worker + 1;
+      ts = before;
+      dur = duration before after;
+      file = 0;
+      piece = length drawn;
+      words = words;
+      depth = 0;
+      total = words;
     }
 
 -- the span of the i-th piece that a worker counted, by its readings

@@ -36,6 +36,6 @@ returns-in_err-put_or_take-clause-taken g c = gain_twice _ _ _ _ _ _ c.loop.inva
 pub returns-clause-taken : goal.returns-clause-taken
 returns-clause-taken g c =
     elim c.match-next.branch [
-        in-None w ↦ gain_moved g.R.Rail.taken _ _ _ _ _ _ w.seat-is (ap (λ (b : Gathered). b.items) w.batch-is) c.loop.invariant.taken
+      | in-None w ↦ gain_moved g.R.Rail.taken _ _ _ _ _ _ w.seat-is (ap (λ (b : Gathered). b.items) w.batch-is) c.loop.invariant.taken
       | in-Some+in_ok-put_or_take+in-Ok w ↦ gain_moved g.R.Rail.taken _ _ _ _ _ _ w.seat-is (ap (λ (b : Gathered). b.items) w.batch-is) (gain_twice _ _ _ _ _ _ c.loop.invariant.taken w.put_or_take.ensures.taken)
     ]
