@@ -4,6 +4,7 @@ use Rattle.std.specs.List.{list_any}
 use Rattle.std.specs.Option.{ok_or, option_copied}
 use Rattle.std.specs.Str.{bytes_eq, all_ascii_digits}
 use Rattle.std.specs.Str.Parse.{digits_value}
+use Rattle.cursor_word.specs.Shape.{least_blocks, most_blocks, most_size}
 use Rattle.profile_cli.specs.Texts.{bytes_of}
 use Rattle.profile_cli.specs.declared.options.Given.{Given as GivenTexts}
 use Rattle.profile_cli.specs.declared.options.Options.{Options}
@@ -39,22 +40,35 @@ Ok x >>= next = next x
 Err refusal >>= next = Err refusal
 
 abbrev pub nothing_given : Given
-nothing_given = record { workers = None; blocks = None; size = None; piece = None; trace = None; files = [] }
+nothing_given = record {
+  workers = None;
+  blocks = None;
+  size = None;
+  piece = None;
+  trace = None;
+  files = [];
+}
 
 -- one more option with its value: each is given at most once, and no value begins with a dash
 abbrev pub with_option : Given → List ℕ → List ℕ → Result Given Refusal
 with_option given name value =
     if begins_with_dash value then Err Words
-    else (if bytes_eq name (codes "--workers") && is_none given.workers then Ok (record given { workers = Some value })
-    else (if bytes_eq name (codes "--blocks") && is_none given.blocks then Ok (record given { blocks = Some value })
-    else (if bytes_eq name (codes "--size") && is_none given.size then Ok (record given { size = Some value })
-    else (if bytes_eq name (codes "--piece") && is_none given.piece then Ok (record given { piece = Some value })
-    else (if bytes_eq name (codes "--trace") && is_none given.trace then Ok (record given { trace = Some value })
+    else (if bytes_eq name (codes "--workers") && is_none given.workers
+    then Ok (record given { workers = Some value })
+    else (if bytes_eq name (codes "--blocks") && is_none given.blocks
+    then Ok (record given { blocks = Some value })
+    else (if bytes_eq name (codes "--size") && is_none given.size
+    then Ok (record given { size = Some value })
+    else (if bytes_eq name (codes "--piece") && is_none given.piece
+    then Ok (record given { piece = Some value })
+    else (if bytes_eq name (codes "--trace") && is_none given.trace
+    then Ok (record given { trace = Some value })
     else Err Words)))))
 
 -- the words behind the options are the FILEs, and none of them begins with a dash
 abbrev pub with_files : Given → List (List ℕ) → Result Given Refusal
-with_files given words = if list_any begins_with_dash words then Err Words else Ok (record given { files = words })
+with_files given words =
+    if list_any begins_with_dash words then Err Words else Ok (record given { files = words })
 
 -- first the options, each with its value, then the FILEs
 abbrev pub read_words : Given → List (List ℕ) → Result Given Refusal
@@ -69,7 +83,8 @@ abbrev pub number_within : ℕ → ℕ → List ℕ → Option ℕ
 number_within least most [] = None
 number_within least most (d ∷ ds) =
     let number = digits_value 10 (d ∷ ds) in
-    if all_ascii_digits (d ∷ ds) && (nat_le least number && nat_le number most) then Some number else None
+    if all_ascii_digits (d ∷ ds) && (nat_le least number && nat_le number most) then Some number
+    else None
 
 -- the number of an option, from the least to the most, or its default where it isn't given
 abbrev pub number_or : Refusal → ℕ → ℕ → ℕ → Option (List ℕ) → Result ℕ Refusal
@@ -85,11 +100,18 @@ some_files (file ∷ files) = Ok (file ∷ files)
 abbrev pub asked_by : Given → Result Asked Refusal
 asked_by given = do
   workers ← number_or Workers 4 1 255 given.workers
-  blocks ← number_or Blocks 8 2 256 given.blocks
-  size ← number_or Size 64 1 1024 given.size
+  blocks ← number_or Blocks 8 least_blocks most_blocks given.blocks
+  size ← number_or Size 64 1 most_size given.size
   piece ← number_or Piece 65536 1 16777216 given.piece
   files ← some_files given.files
-  Ok (record { workers = workers; blocks = blocks; size = size; piece = piece; trace = unwrap_or given.trace (codes "trace.json"); files = files })
+  Ok (record {
+    workers = workers;
+    blocks = blocks;
+    size = size;
+    piece = piece;
+    trace = unwrap_or given.trace (codes "trace.json");
+    files = files;
+  })
 
 -- what these words ask, or how they are refused
 abbrev pub usage : List (List ℕ) → Result Asked Refusal
@@ -115,19 +137,33 @@ refusal_word Input = codes "input"
 
 -- what the program holds of the words, as bytes
 abbrev pub given_of : GivenTexts → Given
-given_of g = record { workers = option_copied g.workers; blocks = option_copied g.blocks; size = option_copied g.size; piece = option_copied g.piece; trace = option_copied g.trace; files = bytes_of g.files.now }
+given_of g = record {
+  workers = option_copied g.workers;
+  blocks = option_copied g.blocks;
+  size = option_copied g.size;
+  piece = option_copied g.piece;
+  trace = option_copied g.trace;
+  files = bytes_of g.files.now;
+}
 
 abbrev pub asked_of : Options → Asked
-asked_of o = record { workers = o.workers; blocks = o.blocks; size = o.size; piece = o.piece; trace = o.trace.now; files = bytes_of o.files.now }
+asked_of o = record {
+  workers = o.workers;
+  blocks = o.blocks;
+  size = o.size;
+  piece = o.piece;
+  trace = o.trace.now;
+  files = bytes_of o.files.now;
+}
 
 -- the numbers lie in their ranges, and there is a FILE
 pub record IsWithinLimits (o : Options) : Type 0 where
   pub some_workers : 1 ≤ o.workers
   pub most_workers : o.workers ≤ 255
-  pub some_blocks : 2 ≤ o.blocks
-  pub most_blocks : o.blocks ≤ 256
+  pub some_blocks : least_blocks ≤ o.blocks
+  pub few_blocks : o.blocks ≤ most_blocks
   pub some_size : 1 ≤ o.size
-  pub most_size : o.size ≤ 1024
+  pub small_size : o.size ≤ most_size
   pub some_piece : 1 ≤ o.piece
   pub most_piece : o.piece ≤ 16777216
   pub some_files : 0 < length o.files.now

@@ -1,4 +1,5 @@
-//! The command: words are counted by workers that note their spans in a queue, and a trace of it is stored.
+//! The command: words are counted by workers that note their spans in a queue, and a trace of it is
+//! stored.
 #![tactic(auto)]
 
 mod asked;

@@ -3,6 +3,8 @@ ghost use Rattle.std.specs.Option.{option_copied};
 ghost use Rattle.profile_cli.specs.Texts.{bytes_of};
 ghost use Rattle.profile_cli.specs.Usage.{begins_with_dash, nothing_given, with_option, with_files, read_words, number_within, number_or, asked_by, usage, refusal_number, refusal_word, given_of, asked_of, IsWithinLimits};
 
+use cursor_word::{LEAST_BLOCKS, MOST_BLOCKS, MOST_SIZE};
+
 /// How the words of the command are refused.
 #[derive(Clone, Copy, Debug, PartialEq, Eq)]
 pub enum Refusal {
@@ -12,7 +14,7 @@ pub enum Refusal {
     Workers,
     /// `--blocks` isn't a number from 2 to 256.
     Blocks,
-    /// `--size` isn't a number from 1 to 1,024.
+    /// `--size` isn't a number from 1 to 65,536.
     Size,
     /// `--piece` isn't a number from 1 to 16,777,216.
     Piece,
@@ -171,8 +173,8 @@ impl<'a> Given<'a> {
         ensures limits { IfOk result IsWithinLimits }
     {
         let workers = number_or(Refusal::Workers, 4, 1, 255, self.workers)?;
-        let blocks = number_or(Refusal::Blocks, 8, 2, 256, self.blocks)?;
-        let size = number_or(Refusal::Size, 64, 1, 1_024, self.size)?;
+        let blocks = number_or(Refusal::Blocks, 8, LEAST_BLOCKS, MOST_BLOCKS, self.blocks)?;
+        let size = number_or(Refusal::Size, 64, 1, MOST_SIZE, self.size)?;
         let piece = number_or(Refusal::Piece, 65_536, 1, 16_777_216, self.piece)?;
         if self.files.is_empty() {
             return Err(Refusal::Input);

@@ -46,8 +46,9 @@ const ASKED: &[Asked] = &[
         ..DEFAULTS
     },
     Asked {
-        words: &["--size", "1024", "a"],
-        size: 1_024,
+        words: &["--size", "65536", "ab.txt"],
+        size: 65_536,
+        files: &["ab.txt"],
         ..DEFAULTS
     },
     Asked {
@@ -106,7 +107,7 @@ const REFUSED: &[(&[&str], Refusal)] = &[
     ),
     (&["--blocks", "1", "ab.txt"], Refusal::Blocks),
     (&["--size", "0", "--blocks", "257", "a"], Refusal::Blocks),
-    (&["--size", "1025", "ab.txt"], Refusal::Size),
+    (&["--size", "65537", "ab.txt"], Refusal::Size),
     (&["--piece", "x"], Refusal::Piece),
     (&["--piece", "16777217", "a"], Refusal::Piece),
     (&["--nosuch"], Refusal::Words),
