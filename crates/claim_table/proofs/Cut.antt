@@ -1,22 +1,21 @@
 -- Dealing and gathering seats keep the rule, and what one seat that stands for all knows at the end.
-use Rattle.std.proofs.Common.{◌≡◌, ℕ, zero, suc, ◌+◌, ◌<◌, ◌≤◌, Bool, true, false, ◌||◌, List, [], ◌∷◌, ◌++◌, set, sum_by, IsPermutation, sym, refl, ap, ◌∙◌, subst, arith, ⊎_elim}
+use Rattle.std.proofs.Common.{◌≡◌, ℕ, zero, suc, ◌+◌, ◌<◌, ◌≤◌, Bool, true, false, ◌||◌, List, [], ◌∷◌, ◌++◌, set, min, sum_by, IsPermutation, append-nil, sym, refl, ap, ◌∙◌, subst, arith, ⊎_elim}
 use Rattle.std.specs.List.{range_with_len}
+use Rattle.std.specs.List.Sorted.{IsStrictlyIncreasing}
 use Rattle.std.proofs.lemmas.Bool.{false≢true}
 use Rattle.std.proofs.lemmas.List.Sums.{sum_by-cons, sum_by_push}
-use mathlib.Core.Logic.{dite}
 use mathlib.Core.Option.{some, some-injective, some-ne-none}
-use native.Mathlib.Decide.{dec_lt}
 use lib.ListN.{get_elem?}
 use Rattle.step_log.proofs.Lists.{at_set, at_snoc, set_else}
 use Rattle.step_log.specs.Log.{Parts, Merges, Ends}
 use Rattle.claim_table.specs.declared.share.Share.{Share}
-use Rattle.claim_table.specs.declared.share.Plan.{Plan}
-use Rattle.claim_table.specs.Claimed.{times, stopped_parts, drawn_times, IsShare, Claimed, kept_share, given_share, joint_share, spent_share}
-use Rattle.claim_table.proofs.Totals.{sum_by-put, sum_by-part, times-append, shuffled, beyond, within}
+use Rattle.claim_table.specs.declared.share.ClaimShape.{ClaimShape}
+use Rattle.claim_table.specs.Claimed.{stopped_parts, IsShare, Claimed, kept_share, given_share, joint_share, spent_share}
+use Rattle.claim_table.proofs.Totals.{times, drawn_times, sum_by-put, sum_by-part, times-append, times-drawn, draws-all, increasing-none, shuffled}
 
-module _ (plan : Plan) (v : Share) where
-  pub cuts : 1 < v.parts → v.stopped ≡ false → v.ended ≡ 0 → Parts (Claimed plan) v (kept_share v) (given_share v)
-  cuts more going on words views at c get =
+module _ (shape : ClaimShape) (v : Share) where
+  pub cuts : 1 < v.parts → v.drawn ≡ [] → v.stopped ≡ false → v.ended ≡ 0 → Parts (Claimed shape) v (kept_share v) (given_share v)
+  cuts more none going on words views at c get =
       let l = kept_share v in let r = given_share v in
       let t : (f : Share → ℕ) → sum_by f (set views at l ++ r ∷ []) + f v ≡ sum_by f views + f l + f r = λ f. omega (arith, sum_by_push f (set views at l) r, sum_by-put f views at v l get) in
       let mine = c.shares at v get in
@@ -24,13 +23,11 @@ module _ (plan : Plan) (v : Share) where
         next = c.next;
         ended = c.ended;
         are = c.are;
-        once = λ n h k. let a = t (drawn_times n) in let d = c.once n h k in omega arith;
-        not_yet = λ n h. let a = t (drawn_times n) in let d = c.not_yet n h in omega arith;
-        others = λ n h. let a = t (drawn_times n) in let d = c.others n h in omega arith;
+        drawn = let numbers = range_with_len 0 (min c.next shape.pieces) in draws-all (set views at l ++ r ∷ []) numbers (λ n. let a = t (drawn_times n) in let d = times-drawn n views numbers c.drawn in omega arith);
         shares = λ j u e. ⊎_elim
-            (λ old. ⊎_elim (λ h. subst (IsShare plan c.next) h.1 (record { knows = λ some. mine.knows (omega arith); stopped = mine.stopped; spent = λ none. absurd (omega arith); ended = omega arith }))
+            (λ old. ⊎_elim (λ h. subst (IsShare shape c.next) h.1 (record { knows = λ some. mine.knows (omega arith); rising = λ single. subst IsStrictlyIncreasing (sym none) increasing-none; stopped = mine.stopped; spent = λ none. absurd (omega arith); ended = omega arith }))
             (λ h. c.shares j u h.1) (at_set views at j l u old))
-            (λ new. subst (IsShare plan c.next) new (record { knows = λ some. mine.knows (omega arith); stopped = λ is. absurd (false≢true is); spent = λ none. refl; ended = omega arith })) (at_snoc (set views at l) r u j e);
+            (λ new. subst (IsShare shape c.next) new (record { knows = λ some. mine.knows (omega arith); rising = λ single. increasing-none; stopped = λ is. absurd (false≢true is); spent = λ none. refl; ended = omega arith })) (at_snoc (set views at l) r u j e);
         parts = let a = t (λ (u : Share). u.parts) in let p = c.parts in omega arith;
         marks = let a = t (λ (u : Share). u.ended) in let m = c.marks in omega arith;
         bound = let a = t stopped_parts in let b = c.bound in let g : stopped_parts v ≡ 0 = rw going refl in omega arith;
@@ -49,8 +46,8 @@ joins_more v w true false e f = rw (e, f) (omega arith)
 joins_more v w false true e f = rw (e, f) (omega arith)
 joins_more v w false false e f = rw (e, f) (omega arith)
 
-module _ (plan : Plan) (v w : Share) (some_parts : 0 < v.parts) where
-  pub merges : Merges (Claimed plan) v w (joint_share v w) spent_share
+module _ (shape : ClaimShape) (v w : Share) (some_parts : 0 < v.parts) where
+  pub merges : Merges (Claimed shape) v w (joint_share v w) spent_share
   merges words views at other c get get' ne =
       let b = joint_share v w in let V = set views at b in
       let here : get_elem? V other ≡ some w = set_else views at other b ne ∙ get' in
@@ -61,15 +58,14 @@ module _ (plan : Plan) (v w : Share) (some_parts : 0 < v.parts) where
         next = c.next;
         ended = c.ended;
         are = c.are;
-        once = λ n h k. n_times n ∙ c.once n h k;
-        not_yet = λ n h. n_times n ∙ c.not_yet n h;
-        others = λ n h. n_times n ∙ c.others n h;
+        drawn = let numbers = range_with_len 0 (min c.next shape.pieces) in draws-all (set V other spent_share) numbers (λ n. n_times n ∙ times-drawn n views numbers c.drawn);
         shares = λ j u e. ⊎_elim
-            (λ h. subst (IsShare plan c.next) h.1 (record { knows = λ some. absurd (omega arith); stopped = λ is. absurd (false≢true is); spent = λ none. refl; ended = omega arith }))
+            (λ h. subst (IsShare shape c.next) h.1 (record { knows = λ some. absurd (omega arith); rising = λ single. increasing-none; stopped = λ is. absurd (false≢true is); spent = λ none. refl; ended = omega arith }))
             (λ h. ⊎_elim
-            (λ k. subst (IsShare plan c.next) k.1 (record {
+            (λ k. subst (IsShare shape c.next) k.1 (record {
               knows = λ some. mine.knows some_parts;
-              stopped = stops (plan.pieces ≤ c.next) v.stopped w.stopped mine.stopped its.stopped;
+              rising = λ single. let none : w.parts ≡ 0 = omega arith in subst IsStrictlyIncreasing (sym (ap (λ (ds : List ℕ). v.drawn ++ ds) (its.spent none) ∙ append-nil v.drawn)) (mine.rising (omega arith));
+              stopped = stops (shape.pieces ≤ c.next) v.stopped w.stopped mine.stopped its.stopped;
               spent = λ none. absurd (omega arith);
               ended = (let a = mine.ended in let b' = its.ended in omega arith);
             }))
@@ -92,10 +88,9 @@ module _ {X : Type 0} (f g : X → ℕ) where
   only (x ∷ xs) (suc i) v idle e z = let p = sum_by-part g xs i v e in let c = sum_by-cons g x xs in
       omega (arith, sum_by-cons f x xs, idle 0 x refl (omega arith), only xs i v (λ j y h. idle (suc j) y h) e (omega arith))
 
-module _ (plan : Plan) (v : Share) (words : List ℕ) (end : Ends (Claimed plan) v words) where
-  pub drawn_once : v.parts ≡ plan.seats → v.stopped ≡ true → IsPermutation v.drawn (range_with_len 0 plan.pieces)
+module _ (shape : ClaimShape) (v : Share) (words : List ℕ) (end : Ends (Claimed shape) v words) where
+  pub drawn_once : v.parts ≡ shape.seats → v.stopped ≡ true → IsPermutation v.drawn (range_with_len 0 shape.pieces)
   drawn_once all stopped = let c = end.2 in let ended = (c.shares end.1 v end.3).stopped stopped in
       let its : (n : ℕ) → sum_by (drawn_times n) end.0 ≡ times n v.drawn = λ n. only (drawn_times n) (λ (u : Share). u.parts) end.0 end.1 v (λ j u e z. ap (times n) ((c.shares j u e).spent z)) end.3 (c.parts ∙ sym all) in
-      shuffled v.drawn (range_with_len 0 plan.pieces) (λ n. sym (its n) ∙ dite (dec_lt n plan.pieces)
-      (λ lt. c.once n (omega arith) lt ∙ sym (within n 0 plan.pieces (omega arith) (omega arith)))
-      (λ ge. c.others n (omega arith) ∙ sym (beyond n 0 plan.pieces (omega arith))))
+      let whole : min c.next shape.pieces ≡ shape.pieces = omega arith in
+      shuffled v.drawn (range_with_len 0 shape.pieces) (λ n. sym (its n) ∙ (times-drawn n end.0 (range_with_len 0 (min c.next shape.pieces)) c.drawn ∙ ap (λ k. times n (range_with_len 0 k)) whole))

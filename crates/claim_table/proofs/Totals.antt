@@ -1,16 +1,24 @@
--- Sums over all views, and how often a number was drawn.
-use Rattle.std.proofs.Common.{◌≡◌, ℕ, zero, suc, ◌+◌, ◌<◌, ◌≤◌, eqb, ◌≢◌, List, [], ◌∷◌, ◌++◌, set, get_or, remove, length, length-append, sum_by, All, IsPermutation, sym, refl, ap, ◌∙◌, arith, eq-eqb, ne_eqb}
+-- Sums over all views, how often a number was drawn, and what all drew as one list.
+use Rattle.std.proofs.Common.{◌≡◌, ℕ, zero, suc, ◌+◌, ◌<◌, ◌≤◌, eqb, ◌≢◌, List, [], ◌∷◌, ◌++◌, set, get_or, remove, length, length-append, sum_by, flat_map, All, IsPermutation, sym, refl, ap, ◌∙◌, arith, eq-eqb, ne_eqb}
 use Rattle.std.specs.List.{range_with_len}
 use Rattle.std.specs.List.Sorted.{IsStrictlyIncreasing}
 use Rattle.std.proofs.lemmas.List.Sums.{sum_by-cons, sum_by-append, sum_by-remove}
-use Rattle.std.proofs.lemmas.List.Sorted.{IsPermutation-refl, IsPermutation-cons, IsPermutation-trans, IsPermutation-sym, IsPermutation-remove}
+use Rattle.std.proofs.lemmas.List.Sorted.{IsPermutation-refl, IsPermutation-cons, IsPermutation-trans, IsPermutation-sym, IsPermutation-remove, sum_by-IsPermutation}
 use Rattle.std.proofs.Math.ListN.{get_or-append}
 use Rattle.std.proofs.Math.Seq.{get_or-append_seam}
 use mathlib.Core.Option.{some, some-injective, some-ne-none}
 use mathlib.Core.Logic.{dite}
 use native.Mathlib.Decide.{dec_lt, ℕ_discrete}
 use lib.ListN.{get_elem?}
-use Rattle.claim_table.specs.Claimed.{times, one_if}
+use Rattle.claim_table.specs.declared.share.Share.{Share}
+use Rattle.claim_table.specs.Claimed.{one_if}
+
+-- how often a number stands in a list, and was drawn by a share
+abbrev pub times : ℕ → List ℕ → ℕ
+times n = sum_by (λ x. one_if (eqb x n))
+
+abbrev pub drawn_times : ℕ → Share → ℕ
+drawn_times n v = times n v.drawn
 
 module _ {X : Type 0} (f : X → ℕ) where
   pub sum_by-put : (xs : List X) (i : ℕ) (v w : X) → get_elem? xs i ≡ some v → sum_by f (set xs i w) + f v ≡ sum_by f xs + f w
@@ -48,6 +56,9 @@ all_below n (x ∷ xs) none zero d h = dite (dec_lt x n) (λ lt. lt) (λ ge. let
 all_below n (x ∷ xs) none (suc k) d h = all_below n xs (λ e le. let no = none e le in omega (arith, times-cons e x xs)) k d (omega arith)
 all_below n [] none k d h = absurd (omega arith)
 
+pub increasing-none : IsStrictlyIncreasing []
+increasing-none k h = absurd (omega arith)
+
 pub increasing-snoc : (n : ℕ) (xs : List ℕ) → All (λ d. d < n) xs → IsStrictlyIncreasing xs → IsStrictlyIncreasing (xs ++ n ∷ [])
 increasing-snoc n xs below rises k h = let long = length-append xs (n ∷ []) in
     let here = get_or-append xs (n ∷ []) 0 k (omega arith) in
@@ -74,17 +85,28 @@ shuffled (x ∷ xs) ys same = let one = hit x x refl in
     let it : one_if (eqb x n) ≡ one_if (eqb (get_or ys at.0 x) n) = ap (λ y. one_if (eqb y n)) at.2 in omega (arith, same n, times-cons n x xs)) in
     IsPermutation-trans (x ∷ xs) (x ∷ remove ys at.0) ys (IsPermutation-cons x xs (remove ys at.0) (shuffled xs (remove ys at.0) rest)) (IsPermutation-sym ys (x ∷ remove ys at.0) (IsPermutation-remove ys at.0 x at.1 at.2))
 
--- the numbers from a on, k of them
-before : (n a k : ℕ) → n < a → times n (range_with_len a k) ≡ 0
-before n a zero h = refl
-before n a (suc k) h = let m = miss a n (λ e. omega arith) in omega (arith, times-cons n a (range_with_len (a + 1) k), before n (a + 1) k (omega arith))
+-- the numbers from a on, one more
+range_more : (a k : ℕ) → range_with_len a (suc k) ≡ range_with_len a k ++ (a + k) ∷ []
+range_more a zero = let e : a ≡ a + 0 = omega arith in ap (λ (n : ℕ). n ∷ []) e
+range_more a (suc k) = ap (λ (l : List ℕ). a ∷ l) (range_more (a + 1) k ∙ ap (λ (n : ℕ). range_with_len (a + 1) k ++ n ∷ []) (omega arith))
 
+pub times-range : (n k : ℕ) → times n (range_with_len 0 (suc k)) ≡ times n (range_with_len 0 k) + one_if (eqb k n)
+times-range n k = let e : 0 + k ≡ k = omega arith in ap (times n) (range_more 0 k ∙ ap (λ (j : ℕ). range_with_len 0 k ++ j ∷ []) e) ∙ times-snoc n k (range_with_len 0 k)
+
+-- no number of a range stands beyond it
 pub beyond : (n a k : ℕ) → a + k ≤ n → times n (range_with_len a k) ≡ 0
 beyond n a zero h = refl
 beyond n a (suc k) h = let m = miss a n (λ e. omega arith) in omega (arith, times-cons n a (range_with_len (a + 1) k), beyond n (a + 1) k (omega arith))
 
-pub within : (n a k : ℕ) → a ≤ n → n < a + k → times n (range_with_len a k) ≡ 1
-within n a zero h lt = absurd (omega arith)
-within n a (suc k) h lt = dite (ℕ_discrete a n)
-    (λ e. let m = hit a n e in omega (arith, times-cons n a (range_with_len (a + 1) k), before n (a + 1) k (omega arith)))
-    (λ e. let m = miss a n e in omega (arith, times-cons n a (range_with_len (a + 1) k), within n (a + 1) k (omega arith) (omega arith)))
+abbrev pub all_drawn : List Share → List ℕ
+all_drawn = flat_map (λ v. v.drawn)
+
+times-all : (n : ℕ) (vs : List Share) → times n (all_drawn vs) ≡ sum_by (drawn_times n) vs
+times-all n [] = refl
+times-all n (v ∷ vs) = omega (arith, times-append n v.drawn (all_drawn vs), times-all n vs, sum_by-cons (drawn_times n) v vs)
+
+pub times-drawn : (n : ℕ) (vs : List Share) (numbers : List ℕ) → IsPermutation (all_drawn vs) numbers → sum_by (drawn_times n) vs ≡ times n numbers
+times-drawn n vs numbers p = sym (times-all n vs) ∙ sym (sum_by-IsPermutation (λ x. one_if (eqb x n)) (all_drawn vs) numbers p)
+
+pub draws-all : (vs : List Share) (numbers : List ℕ) → ((n : ℕ) → sum_by (drawn_times n) vs ≡ times n numbers) → IsPermutation (all_drawn vs) numbers
+draws-all vs numbers same = shuffled (all_drawn vs) numbers (λ n. times-all n vs ∙ same n)

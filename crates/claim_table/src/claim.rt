@@ -5,7 +5,7 @@ ghost use Rattle.std.specs.List.Sorted.{IsStrictlyIncreasing};
 ghost use Rattle.claim_table.specs.Claimed.{Claimant, Drawing, share, drew, found_end, marked, looked, IsFresh, one_if};
 
 use crate::rule::{Claiming, Deal, Draw, End, Look};
-use crate::share::Plan;
+use crate::share::ClaimShape;
 use std::alloc::{AllocError, Global};
 use std::marker::Model;
 use step_log::{WordSeat, Words};
@@ -25,7 +25,7 @@ pub struct Claim {
 impl Model for Claim {
     ghost Value = { Claimant };
 
-    ghost view = { λ c. record { id = c.words.id; plan = c.words.key } };
+    ghost view = { λ c. record { id = c.words.id; shape = c.words.key } };
 
     ghost invariant = { λ c. (c.words.key.pieces ≡ c.pieces) × (c.words.id.words ≡ 2)
         × (0 < c.words.key.seats) };
@@ -43,14 +43,14 @@ impl Model for ClaimSeat {
     ghost Value = { Drawing };
 
     ghost view = { λ s. record {
-      of = record { id = s.seat.id; plan = s.seat.view.plan };
+      of = record { id = s.seat.id; shape = s.seat.view.shape };
       drawn = s.seat.view.drawn;
       stopped = s.stopped;
       ended = s.ended;
       log = s.seat.log;
     } };
 
-    ghost invariant = { λ s. (s.seat.view ≡ share 1 s.seat.view.plan s.seat.view.drawn s.stopped
+    ghost invariant = { λ s. (s.seat.view ≡ share 1 s.seat.view.shape s.seat.view.drawn s.stopped
         (one_if s.ended)) × IsStrictlyIncreasing s.seat.view.drawn };
 }
 
@@ -63,14 +63,14 @@ impl Claim {
     ) -> Result<(Claim, Vec<ClaimSeat>), AllocError>
         requires pieces { pieces ≤ 1048576 }
         requires seats { (0 < seats) × (seats ≤ 256) }
-        ensures plan { IfOk result (λ r. r.0.plan ≡ record { pieces = pieces; seats = seats }) }
+        ensures shape { IfOk result (λ r. r.0.shape ≡ record { pieces = pieces; seats = seats }) }
         ensures count { IfOk result (λ r. vec_len r.1 ≡ seats) }
         ensures fresh { IfOk result (λ r. All (IsFresh r.0) r.1.items) }
     {
-        let plan = Plan { pieces, seats };
+        let shape = ClaimShape { pieces, seats };
         let start = vec![in alloc; 0u64, 0]?;
-        let (words, first) = Words::<Claiming>::make(alloc, start, plan)?;
-        let made = deal(alloc, &words, first, plan)?;
+        let (words, first) = Words::<Claiming>::make(alloc, start, shape)?;
+        let made = deal(alloc, &words, first, shape)?;
         Ok((Claim { words, pieces }, made))
     }
 
@@ -79,10 +79,10 @@ impl Claim {
     pub fn claim(&self, seat: &mut ClaimSeat) -> Option<u64>
         requires own { seat.old.of ≡ self.now }
         ensures same { seat.new.of ≡ seat.old.of }
-        ensures drawn { IfSome result (λ n. (n < self.now.plan.pieces)
+        ensures drawn { IfSome result (λ n. (n < self.now.shape.pieces)
             × (seat.new ≡ drew seat.old n)) }
         ensures end { IfNone result (seat.old.stopped ≡ false → (found : ℕ)
-            × (self.now.plan.pieces ≤ found) × (seat.new ≡ found_end seat.old found)) }
+            × (self.now.shape.pieces ≤ found) × (seat.new ≡ found_end seat.old found)) }
         ensures none { IfNone result (seat.new.stopped ≡ true) }
         ensures stopped { seat.old.stopped ≡ true → (result ≡ None) × (seat.new ≡ seat.old) }
         ensures rising { IsStrictlyIncreasing seat.new.drawn }
@@ -117,7 +117,7 @@ impl Claim {
     pub fn ended(&self, seat: &mut ClaimSeat) -> u64
         requires own { seat.old.of ≡ self.now }
         ensures found { seat.new ≡ looked seat.old result }
-        ensures most { result ≤ self.now.plan.seats }
+        ensures most { result ≤ self.now.shape.seats }
         ensures least { seat.old.ended ≡ true → 0 < result }
     {
         self.words.load::<Look>(&mut seat.seat, ENDED)
@@ -126,10 +126,10 @@ impl Claim {
     /// What the seats drew together, once one of them found the end: each number once.
     pub fn close(self, seats: Vec<ClaimSeat>)
         requires own { All (λ s. s.of ≡ self) seats.items }
-        requires all { length seats.items ≡ self.plan.seats }
+        requires all { length seats.items ≡ self.shape.seats }
         requires stopped { Any (λ s. s.stopped ≡ true) seats.items }
         ensures once { IsPermutation (flat_map (λ s. s.drawn) seats.items)
-            (range_with_len 0 self.plan.pieces) }
+            (range_with_len 0 self.shape.pieces) }
     {
         let Claim { words, pieces: _ } = self;
         let all = gather(&words, seats);
@@ -139,9 +139,9 @@ impl Claim {
 
 impl ClaimSeat {
     fn fresh(seat: WordSeat<Claiming>) -> ClaimSeat
-        requires { seat.view ≡ share 1 seat.view.plan [] false 0 }
+        requires { seat.view ≡ share 1 seat.view.shape [] false 0 }
         ensures { result ≡ record {
-          of = record { id = seat.id; plan = seat.view.plan };
+          of = record { id = seat.id; shape = seat.view.shape };
           drawn = [];
           stopped = false;
           ended = false;
@@ -157,7 +157,7 @@ impl ClaimSeat {
 
     fn into_seat(self) -> WordSeat<Claiming>
         ensures id { result.id ≡ self.of.id }
-        ensures view { result.view ≡ share 1 self.of.plan self.drawn self.stopped
+        ensures view { result.view ≡ share 1 self.of.shape self.drawn self.stopped
             (one_if self.ended) }
     {
         let ClaimSeat { seat, .. } = self;
@@ -169,16 +169,16 @@ fn deal(
     alloc: Global,
     words: &Words<Claiming>,
     mut first: WordSeat<Claiming>,
-    plan: Plan,
+    shape: ClaimShape,
 ) -> Result<Vec<ClaimSeat>, AllocError>
-    requires words { (words.now.id.words ≡ 2) × (first.id ≡ words.now.id) }
-    requires first { (0 < plan.seats) × (first.view ≡ share plan.seats plan [] false 0) }
-    ensures count { IfOk result (λ v. length v.items ≡ plan.seats) }
-    ensures fresh { IfOk result (λ v. All (IsFresh (record { id = words.now.id; plan = plan }))
+    requires own { first.id ≡ words.now.id }
+    requires first { (0 < shape.seats) × (first.view ≡ share shape.seats shape [] false 0) }
+    ensures count { IfOk result (λ v. length v.items ≡ shape.seats) }
+    ensures fresh { IfOk result (λ v. All (IsFresh (record { id = words.now.id; shape = shape }))
         v.items) }
 {
     let mut made = Vec::new(alloc);
-    for left in 1..plan.seats {
+    for left in 1..shape.seats {
         let seat = words.split::<Deal>(&mut first);
         made.push(ClaimSeat::fresh(seat))?;
     }
@@ -188,7 +188,6 @@ fn deal(
 
 // One seat that took in all others.
 fn gather(words: &Words<Claiming>, mut seats: Vec<ClaimSeat>) -> WordSeat<Claiming>
-    requires words { words.now.id.words ≡ 2 }
     requires some { 0 < length seats.items }
     requires own { All (λ s. s.of.id ≡ words.now.id) seats.items }
     ensures id { result.id ≡ words.now.id }

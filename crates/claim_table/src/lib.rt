@@ -7,4 +7,4 @@ mod rule;
 mod share;
 
 pub use claim::{Claim, ClaimSeat};
-pub use share::Plan;
+pub use share::ClaimShape;

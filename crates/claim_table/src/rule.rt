@@ -2,19 +2,19 @@
 ghost use Rattle.std.specs.Prelude.{◌≡◌, [], false};
 ghost use Rattle.claim_table.specs.Claimed.{Claimed, Draws, Marks, Looks, share, kept_share, given_share, joint_share, spent_share};
 
-use crate::share::{Plan, Share};
-use step_log::{StepRule, Told};
+use crate::share::{ClaimShape, Share};
+use step_log::{StepFact, StepRule};
 
 pub struct Claiming;
 
 impl StepRule for Claiming {
-    type Key = Plan;
+    type Key = ClaimShape;
 
     type View = Share;
 
     ghost holds = { Claimed };
 
-    ghost first = { λ plan. share plan.seats plan [] false 0 };
+    ghost first = { λ shape. share shape.seats shape [] false 0 };
 
     ghost spent = { spent_share };
 }
@@ -22,28 +22,28 @@ impl StepRule for Claiming {
 /// A number is drawn, or the end is found.
 pub struct Draw;
 
-impl Told<Claiming> for Draw {
+impl StepFact<Claiming> for Draw {
     ghost then = { Draws };
 }
 
 /// The seat is marked ended.
 pub struct End;
 
-impl Told<Claiming> for End {
+impl StepFact<Claiming> for End {
     ghost then = { Marks };
 }
 
 /// The count of ended seats is read.
 pub struct Look;
 
-impl Told<Claiming> for Look {
+impl StepFact<Claiming> for Look {
     ghost then = { Looks };
 }
 
 /// Seats are dealt, and gathered again.
 pub struct Deal;
 
-impl Told<Claiming> for Deal {
+impl StepFact<Claiming> for Deal {
     ghost then = { λ v t w. w ≡ v };
 
     ghost left = { kept_share };

@@ -2,7 +2,7 @@
 
 /// How many numbers there are to draw, and for how many seats.
 #[derive(Clone, Copy)]
-pub struct Plan {
+pub struct ClaimShape {
     pub pieces: u64,
     pub seats: u64,
 }
@@ -12,7 +12,7 @@ pub struct Plan {
 /// A share of no part is spent. No value of it is made.
 pub struct Share {
     pub parts: u64,
-    pub plan: Plan,
+    pub shape: ClaimShape,
     pub drawn: [u64; 0],
     pub stopped: bool,
     pub ended: u64,

@@ -4,7 +4,7 @@ use Rattle.std.specs.Prelude.{None, false}
 use Rattle.cursor_word.specs.Shape.{Grid}
 use Rattle.rail.specs.declared.entry.Placed.{Placed}
 use Rattle.rail.specs.declared.answer.Answer.{Answer}
-use Rattle.step_log.specs.declared.step.Taken.{Taken}
+use Rattle.step_log.specs.declared.log.Step.{Step}
 use Rattle.step_log.specs.Log.{Sitting}
 use Rattle.machine.specs.declared.op.After.TheVariants.{Next}
 use Rattle.bbq_core.specs.declared.phase.Phase.{Phase}

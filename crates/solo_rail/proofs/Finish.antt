@@ -15,7 +15,7 @@ use Rattle.rail.specs.declared.entry.Placed.{Placed}
 use Rattle.rail.specs.Items.{IsRising, places}
 use Rattle.rail.specs.Outcome.{IsAccepted, RetryOutcome, numbers_below}
 use Rattle.rail.proofs.Rising.{rising_accepted, same_by_permutation}
-use Rattle.step_log.specs.declared.step.Taken.{Taken}
+use Rattle.step_log.specs.declared.log.Step.{Step}
 use Rattle.step_log.specs.Log.{Ends, TableId}
 use Rattle.bbq_core.specs.declared.phase.Phase.{Phase}
 use Rattle.bbq_core.specs.Types.{MachineState, View}
@@ -80,7 +80,7 @@ settles g h words (views, position, held, get) rest =
     still_settles g h.view words held.limits (subst (Stands g words h.view) rest stands) (let most = most_puts_to g in omega arith)
 
 -- the seat as clauses see it
-pub finish_seen : (key : Grid) (h : Holding) (seat : Seated Phase) (id : TableId) (log : List Taken) (words : List ℕ) → record { of = record { id = id; shape = h.shape }; number = 0; view = h.view; log = log } ≡ seat → h.view.phase ≡ None → Ends (IsHeld key) h words
+pub finish_seen : (key : Grid) (h : Holding) (seat : Seated Phase) (id : TableId) (log : List Step) (words : List ℕ) → record { of = record { id = id; shape = h.shape }; number = 0; view = h.view; log = log } ≡ seat → h.view.phase ≡ None → Ends (IsHeld key) h words
     → Settles key seat.view words
 finish_seen key h seat id log words seen rest ends = subst (λ (s : Seated Phase). Settles key s.view words) seen (settles key h words ends rest)
 
@@ -95,7 +95,7 @@ retry_left v key g words takes puts count before items s same takes_are puts_are
     ap (λ (n : ℕ). left_in g words takes n) to ∙ (ap (λ (t : ℕ). left_in g words t (length v.made)) exact ∙ ap (λ (h : Grid). left_in h words (length v.taken) (length v.made)) (sym same)) in
     subst (λ (l : List Placed). RetryOutcome v.made v.taken l) (sym (is ∙ (ap (λ (l : List Placed). l ++ left_in g words takes (takes + count)) none ∙ e))) s.outcome
 
-pub retry_seen : (key g : Grid) (h : Holding) (seat : Seated Phase) (id : TableId) (log : List Taken) (words : List ℕ) (takes puts count : ℕ) (before items : List Placed) → record { of = record { id = id; shape = h.shape }; number = 0; view = h.view; log = log } ≡ seat
+pub retry_seen : (key g : Grid) (h : Holding) (seat : Seated Phase) (id : TableId) (log : List Step) (words : List ℕ) (takes puts count : ℕ) (before items : List Placed) → record { of = record { id = id; shape = h.shape }; number = 0; view = h.view; log = log } ≡ seat
     → h.view.phase ≡ None → Ends (IsHeld key) h words → key ≡ g → takes ≡ min (length h.view.taken) (2 ^ 64 - 1) → puts ≡ length h.view.made → count ≡ puts - takes → before ≡ [] → items ≡ before ++ left_in g words takes (takes + count)
     → RetryOutcome seat.view.made seat.view.taken items
 retry_seen key g h seat id log words takes puts count before items seen rest ends same takes_are puts_are count_is none is =

@@ -7,7 +7,7 @@ ghost use Rattle.rail.specs.Outcome.{DropOutcome, IsAccepted, RetryOutcome, numb
 ghost use Rattle.rail.specs.Rail.{Puts, Takes};
 ghost use Rattle.rail.specs.Sequential.{RetryPut, retry_take};
 ghost use Rattle.rail.specs.declared.answer.Answer.TheVariants as answer;
-ghost use Rattle.step_log.specs.declared.step.Taken.{Taken};
+ghost use Rattle.step_log.specs.declared.log.Step.{Step};
 ghost use Rattle.bbq_core.specs.Table.{table};
 ghost use Rattle.bbq_core.specs.declared.phase.Phase.{Phase};
 ghost use Rattle.call_steps.specs.Call.{TookSteps};
@@ -176,7 +176,7 @@ impl Rail for SoloRetry {
         ensures told { seat.new.view.answer ≡ Some (answer.Put result) }
         ensures exact { RetryPut self.now.shape (length seat.old.view.made)
             (length seat.old.view.taken) result }
-        ensures steps { (steps : List Taken)
+        ensures steps { (steps : List Step)
             × TookSteps table self.now.shape entry.now table.first_put steps (answer.Put result)
             seat.new.view.trail seat.old.log seat.new.log }
     {
@@ -204,7 +204,7 @@ impl Rail for SoloRetry {
         ensures told { seat.new.view.answer ≡ Some (answer.Take result) }
         ensures exact { result
             ≡ retry_take (length seat.old.view.made) (length seat.old.view.taken) }
-        ensures steps { (steps : List Taken)
+        ensures steps { (steps : List Step)
             × TookSteps table self.now.shape []
             (table.first_take self.now.shape seat.old.view.taken) steps (answer.Take result)
             seat.new.view.trail seat.old.log seat.new.log }

@@ -4,10 +4,10 @@
 //! Logs and views exist in the proofs alone.
 #![tactic(auto)]
 
+mod log;
 mod rule;
-mod step;
 mod words;
 
-pub use rule::{StepRule, Told};
-pub use step::{Logged, Move, Taken};
+pub use log::{Logged, Step, StepKind};
+pub use rule::{StepFact, StepRule};
 pub use words::{Stopped, WordSeat, Words};

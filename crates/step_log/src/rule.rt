@@ -1,9 +1,9 @@
 //! The rule of the words, and what one step tells.
 ghost use Rattle.std.specs.Prelude.{◌≡◌, ℕ, List, [], ◌∷◌, ◌++◌};
-ghost use Rattle.step_log.specs.declared.step.Taken.{Taken};
+ghost use Rattle.step_log.specs.declared.log.Step.{Step};
 ghost use Rattle.step_log.specs.Log.{views_of, begun, with_step, loaded, stored, added, raised, parted, merged};
 
-use crate::step::Logged;
+use crate::log::Logged;
 use atomic_table::{Join, Play, Split, TableRule};
 use std::marker::PhantomData;
 
@@ -26,10 +26,10 @@ pub trait StepRule {
 
 /// What a step tells its caller. One that tells of loads, stores, adds and maxima alone names
 /// `then` alone.
-pub trait Told<U: StepRule> {
+pub trait StepFact<U: StepRule> {
     // Of the view before, the step, and the view after. The step has the value that it found and
     // the one that it brought, which determine the word afterwards.
-    ghost then: { U.View → Taken → U.View → Type 0 };
+    ghost then: { U.View → Step → U.View → Type 0 };
 
     // The view that a split leaves its seat, and the one that the new seat gets.
     ghost left: { U.View → U.View } = { λ v. v };
@@ -51,19 +51,19 @@ impl<U: StepRule> TableRule<(), Logged<U::View>, U::Key> for Lifted<U> {
 }
 
 pub(crate) struct Loads<U, T> {
-    told: PhantomData<(U, T)>,
+    fact: PhantomData<(U, T)>,
 }
 
-impl<U: StepRule, T: Told<U>> Play<(), Logged<U::View>> for Loads<U, T> {
+impl<U: StepRule, T: StepFact<U>> Play<(), Logged<U::View>> for Loads<U, T> {
     ghost then = { λ s me n after. (after ≡ (with_step me.0 after.0.view (loaded s.word n), me.1))
         × T.then me.0.view (loaded s.word n) after.0.view };
 }
 
 pub(crate) struct Stores<U, T> {
-    told: PhantomData<(U, T)>,
+    fact: PhantomData<(U, T)>,
 }
 
-impl<U: StepRule, T: Told<U>> Play<(), Logged<U::View>> for Stores<U, T> {
+impl<U: StepRule, T: StepFact<U>> Play<(), Logged<U::View>> for Stores<U, T> {
     ghost then = { λ s me n after. (after ≡ (
       with_step me.0 after.0.view (stored s.word s.first),
       me.1,
@@ -71,19 +71,19 @@ impl<U: StepRule, T: Told<U>> Play<(), Logged<U::View>> for Stores<U, T> {
 }
 
 pub(crate) struct Adds<U, T> {
-    told: PhantomData<(U, T)>,
+    fact: PhantomData<(U, T)>,
 }
 
-impl<U: StepRule, T: Told<U>> Play<(), Logged<U::View>> for Adds<U, T> {
+impl<U: StepRule, T: StepFact<U>> Play<(), Logged<U::View>> for Adds<U, T> {
     ghost then = { λ s me n after. (after ≡ (with_step me.0 after.0.view (added s.word n), me.1))
         × T.then me.0.view (added s.word n) after.0.view };
 }
 
 pub(crate) struct Raises<U, T> {
-    told: PhantomData<(U, T)>,
+    fact: PhantomData<(U, T)>,
 }
 
-impl<U: StepRule, T: Told<U>> Play<(), Logged<U::View>> for Raises<U, T> {
+impl<U: StepRule, T: StepFact<U>> Play<(), Logged<U::View>> for Raises<U, T> {
     ghost then = { λ s me n after. (after ≡ (
       with_step me.0 after.0.view (raised s.word s.first n),
       me.1,
@@ -91,20 +91,20 @@ impl<U: StepRule, T: Told<U>> Play<(), Logged<U::View>> for Raises<U, T> {
 }
 
 pub(crate) struct Cuts<U, T> {
-    told: PhantomData<(U, T)>,
+    fact: PhantomData<(U, T)>,
 }
 
-impl<U: StepRule, T: Told<U>> Split<Logged<U::View>> for Cuts<U, T> {
+impl<U: StepRule, T: StepFact<U>> Split<Logged<U::View>> for Cuts<U, T> {
     ghost left = { λ l. with_step l (T.left l.view) parted };
 
     ghost right = { λ l. begun (T.right l.view) };
 }
 
 pub(crate) struct Joins<U, T> {
-    told: PhantomData<(U, T)>,
+    fact: PhantomData<(U, T)>,
 }
 
-impl<U: StepRule, T: Told<U>> Join<Logged<U::View>> for Joins<U, T> {
+impl<U: StepRule, T: StepFact<U>> Join<Logged<U::View>> for Joins<U, T> {
     ghost both = { λ l m. with_step l (T.both l.view m.view) merged };
 
     ghost spent = { begun U.spent };

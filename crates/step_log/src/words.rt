@@ -4,8 +4,8 @@ ghost use mathlib.Core.Option.{some};
 ghost use lib.ListN.{get_elem?};
 ghost use Rattle.step_log.specs.Log.{Standing, Sitting, Keeps, Parts, Merges, Ends, loaded, stored, added, raised, parted, merged};
 
-use crate::rule::{Adds, Cuts, Joins, Lifted, Loads, Raises, StepRule, Stores, Told};
-use crate::step::Logged;
+use crate::log::Logged;
+use crate::rule::{Adds, Cuts, Joins, Lifted, Loads, Raises, StepFact, StepRule, Stores};
 use atomic_table::{Closed, Seat, Table};
 use std::alloc::{AllocError, Global};
 use std::marker::Model;
@@ -21,7 +21,8 @@ impl<U: StepRule> Model for Words<U> {
 
     ghost view = { λ w. record { id = w.table.shared.table_id; key = w.table.shared.key } };
 
-    ghost invariant = { λ w. w.table.shared.table_id.slots ≡ 0 };
+    ghost invariant = { λ w. (w.table.shared.table_id.slots ≡ 0)
+        × (0 < w.table.shared.table_id.words) };
 }
 
 /// The token with which one caller steps: a view of the words, and the log of the steps that were
@@ -61,7 +62,7 @@ impl<U: StepRule> Words<U> {
     }
 
     /// Loads a word.
-    pub fn load<T: Told<U>>(&self, seat: &mut WordSeat<U>, index: u64) -> u64
+    pub fn load<T: StepFact<U>>(&self, seat: &mut WordSeat<U>, index: u64) -> u64
         requires own { seat.old.id ≡ self.now.id }
         requires index { index < self.now.id.words }
         requires rule { Keeps (U.holds self.now.key) seat.old.view index (λ n. n)
@@ -71,14 +72,14 @@ impl<U: StepRule> Words<U> {
           view = seat.new.view;
           log = seat.old.log ++ loaded index result ∷ [];
         } }
-        ensures told { T.then seat.old.view (loaded index result) seat.new.view }
+        ensures fact { T.then seat.old.view (loaded index result) seat.new.view }
     {
         let shared = &self.table.shared;
         shared.load::<Loads<U, T>>(&mut seat.seat, index as usize)
     }
 
     /// Stores a word.
-    pub fn store<T: Told<U>>(&self, seat: &mut WordSeat<U>, index: u64, value: u64)
+    pub fn store<T: StepFact<U>>(&self, seat: &mut WordSeat<U>, index: u64, value: u64)
         requires own { seat.old.id ≡ self.now.id }
         requires index { index < self.now.id.words }
         requires rule { Keeps (U.holds self.now.key) seat.old.view index (λ _. value)
@@ -88,14 +89,14 @@ impl<U: StepRule> Words<U> {
           view = seat.new.view;
           log = seat.old.log ++ stored index value ∷ [];
         } }
-        ensures told { T.then seat.old.view (stored index value) seat.new.view }
+        ensures fact { T.then seat.old.view (stored index value) seat.new.view }
     {
         let shared = &self.table.shared;
         shared.store::<Stores<U, T>>(&mut seat.seat, index as usize, value);
     }
 
     /// Adds one to a word modulo 2^64, and answers what it found.
-    pub fn add_one<T: Told<U>>(&self, seat: &mut WordSeat<U>, index: u64) -> u64
+    pub fn add_one<T: StepFact<U>>(&self, seat: &mut WordSeat<U>, index: u64) -> u64
         requires own { seat.old.id ≡ self.now.id }
         requires index { index < self.now.id.words }
         requires rule { Keeps (U.holds self.now.key) seat.old.view index (λ n. (n + 1) % 2 ^ 64)
@@ -105,14 +106,14 @@ impl<U: StepRule> Words<U> {
           view = seat.new.view;
           log = seat.old.log ++ added index result ∷ [];
         } }
-        ensures told { T.then seat.old.view (added index result) seat.new.view }
+        ensures fact { T.then seat.old.view (added index result) seat.new.view }
     {
         let shared = &self.table.shared;
         shared.fetch_add::<Adds<U, T>>(&mut seat.seat, index as usize, 1)
     }
 
     /// Raises a word to `value` where it is less, and answers what it found.
-    pub fn max<T: Told<U>>(&self, seat: &mut WordSeat<U>, index: u64, value: u64) -> u64
+    pub fn max<T: StepFact<U>>(&self, seat: &mut WordSeat<U>, index: u64, value: u64) -> u64
         requires own { seat.old.id ≡ self.now.id }
         requires index { index < self.now.id.words }
         requires rule { Keeps (U.holds self.now.key) seat.old.view index (λ n. max n value)
@@ -122,16 +123,15 @@ impl<U: StepRule> Words<U> {
           view = seat.new.view;
           log = seat.old.log ++ raised index value result ∷ [];
         } }
-        ensures told { T.then seat.old.view (raised index value result) seat.new.view }
+        ensures fact { T.then seat.old.view (raised index value result) seat.new.view }
     {
         let shared = &self.table.shared;
         shared.fetch_max::<Raises<U, T>>(&mut seat.seat, index as usize, value)
     }
 
     /// Loads word 0, and hands out a new seat with an empty log. The load is told to nobody.
-    pub fn split<T: Told<U>>(&self, seat: &mut WordSeat<U>) -> WordSeat<U>
+    pub fn split<T: StepFact<U>>(&self, seat: &mut WordSeat<U>) -> WordSeat<U>
         requires own { seat.old.id ≡ self.now.id }
-        requires some { 0 < self.now.id.words }
         requires rule { Parts (U.holds self.now.key) seat.old.view (T.left seat.old.view)
             (T.right seat.old.view) }
         ensures kept { seat.new ≡ record {
@@ -148,9 +148,8 @@ impl<U: StepRule> Words<U> {
 
     /// Loads word 0, and takes in the other seat, whose view and log are spent. The load is told to
     /// nobody.
-    pub fn join<T: Told<U>>(&self, seat: &mut WordSeat<U>, other: WordSeat<U>)
+    pub fn join<T: StepFact<U>>(&self, seat: &mut WordSeat<U>, other: WordSeat<U>)
         requires own { (seat.old.id ≡ self.now.id) × (other.id ≡ self.now.id) }
-        requires some { 0 < self.now.id.words }
         requires rule { Merges (U.holds self.now.key) seat.old.view other.view
             (T.both seat.old.view other.view) U.spent }
         ensures taken { seat.new ≡ record {

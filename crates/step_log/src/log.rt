@@ -1,7 +1,7 @@
-//! One step, as a log has it. No value of these types is made.
+//! What a log has of each step. No value of these types is made.
 
 /// What a step does to its word.
-pub enum Move {
+pub enum StepKind {
     Load,
     Store,
     AddOne,
@@ -12,8 +12,8 @@ pub enum Move {
 
 /// A step that was taken. A store, a split and a join find nothing; a load, an add, a split and a
 /// join bring nothing, written 0.
-pub struct Taken {
-    pub made: Move,
+pub struct Step {
+    pub kind: StepKind,
     pub index: u64,
     pub brought: u64,
     pub found: Option<u64>,
@@ -23,5 +23,5 @@ pub struct Taken {
 /// list, of any length.
 pub struct Logged<V> {
     pub view: V,
-    pub log: [Taken; 0],
+    pub log: [Step; 0],
 }
