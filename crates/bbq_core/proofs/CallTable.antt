@@ -5,7 +5,6 @@ use Rattle.cursor_word.specs.Shape.{Grid}
 use Rattle.cursor_word.specs.Cursor.{offset_span, packed, unpacked}
 use Rattle.cursor_word.specs.declared.cursor.Cursor.{Cursor}
 use Rattle.machine.specs.declared.op.After.TheVariants.{Next, Done}
-use Rattle.machine.specs.Bounds as bounds
 use Rattle.machine.specs.Ops.{noted}
 use Rattle.machine.specs.Table.{Unread, Word, reads_word}
 use Rattle.call_laws.specs.Calls.{IsCallTable, IsOfKind, IsWordWithin, ReadsInOrder, ReadsOn}
@@ -17,8 +16,7 @@ use Rattle.bbq_core.specs.declared.take_phase.TakePhase.TheVariants.{HeadC, SeeR
 use Rattle.bbq_core.specs.PutSteps.{FindsFit, IsInRange, after, older_consumed, rank, want}
 use Rattle.bbq_core.specs.TakeSteps.{after_take, is_same}
 use Rattle.bbq_core.specs.Table.{is_put, reading, table}
-use Rattle.bbq_core.specs.Laws.{steps_of_answer, steps_of_phase}
-use Rattle.bbq_core.proofs.StepBound.{leads}
+use Rattle.bbq_core.proofs.StepBound.{ranked}
 use Rattle.bbq_core.proofs.Loads.{pick_less}
 
 either : (K : After → Type 0) (b : Bool) (x y : After) → K x → K y → K (if b then x else y)
@@ -85,13 +83,6 @@ module _ (g : Grid) (Q : Phase → ℕ → Type 0) (entry : List ℕ) (n : ℕ) 
   any_noted (RaiseP full) h = h
   any_noted (Take q) h = take_noted q h
 
-abbrev LeadsOn : Grid → Phase → After → Type 0
-LeadsOn g p b = bounds.Leads (rank g) (steps_of_phase g) (steps_of_answer g) (rank g p) (steps_of_phase g p) b
-
-some_from : (g : Grid) (p : Phase) (b : After) → LeadsOn g p b → 1 ≤ rank g p
-some_from g p (Next q) l = let r = l.0 in omega arith
-some_from g p (Done a) l = l.0
-
 blind : (g : Grid) (p : Phase) (xs ys : List ℕ) → is_put p ≡ false → want g p xs ≡ want g p ys
 blind g (Take q) xs ys e = refl
 blind g (Write at next) xs ys e = cc
@@ -104,8 +95,7 @@ call_table = record {
   stays = stays;
   put_in_range = λ g. inl refl;
   take_in_range = λ g taken. inl refl;
-  some_left = λ g p range. some_from g p (after g p 0) (leads g p 0 range);
-  falls = λ g p q n range is. (subst (LeadsOn g p) is (leads g p n range)).0;
+  ranked = ranked;
   takes_blind = blind;
   stores_blind = λ g p entry n. any_noted g (λ (q : Phase) (x : ℕ). after g q x ≡ after g q n) entry n (λ at next x h. h) p refl;
   stores_fit = λ g p entry n fits. any_noted g FindsFit entry n (λ at next x h. tt) p fits;

@@ -32,7 +32,7 @@ pub mod AloneTakes
 pub mod AloneCalls
 pub mod AtRest
 pub mod LoneLaw
-pub mod Promises
 pub mod CallTable
 pub mod Promised
 pub mod SeatOrder
+pub mod InTime

@@ -4,7 +4,7 @@ use Rattle.std.specs.Prelude.{Option, Some, false, slice_get, if◌then◌else�
 use Rattle.std.specs.List.{All, AllByRecursion, Contains, sum_by}
 use Rattle.std.proofs.lemmas.Bool.{and_from, both_ways, cases_eq, cases_lt, cond_both, eq-eqb}
 use Rattle.std.proofs.lemmas.Bool.Decides.{nat_tests}
-use Rattle.std.proofs.lemmas.List.Elements.{All-contains, All-from_recursion}
+use Rattle.std.proofs.lemmas.List.Elements.{All-from_recursion}
 use Rattle.std.proofs.lemmas.Nat.{mod_below}
 use Rattle.std.proofs.lemmas.Option.{slice_get-get_or}
 use Rattle.cursor_word.specs.Shape.{Grid, IsWithinLimits}
@@ -36,7 +36,7 @@ use Rattle.put_side.specs.PutTable.{stage_in}
 use Rattle.put_side.proofs.Sums.{by_test_le, none_from, not_there, one_in, one_to, times-cons, two_le_sum, upto_none}
 use Rattle.put_side.proofs.Facts.{all_below, committed_below, found, physical, repacked}
 use Rattle.put_side.proofs.Loads as put_loads
-use Rattle.put_side.proofs.Stores.{counted}
+use Rattle.put_side.proofs.SeatItems.{gains, not_among, own_item}
 use Rattle.bbq_core.specs.PutSteps.{after, filled, older_consumed}
 use Rattle.bbq_core.specs.Table.{table}
 use Rattle.bbq_core.specs.Stage.{stage, stage_of}
@@ -61,15 +61,6 @@ Tells g w v p (Done (answer.Take (take.Empty place))) = EmptyAt g w place × ((q
 Tells g w v p (Done (answer.Take (take.Busy reason))) = Differ reason p
 Tells g w v p (Done (answer.Take (take.Overrun place now))) = ⊥
 
--- the last of a rising list is beyond the others
-below_last : (y x : ℕ) (xs : List ℕ) → AllByRecursion (λ z. y < z) (xs ++ x ∷ []) → y < x
-below_last y x [] a = a.0
-below_last y x (z ∷ zs) a = below_last y x zs a.1
-
-rising_below : (x : ℕ) (xs : List ℕ) → IsRising (xs ++ x ∷ []) → AllByRecursion (λ q. q < x) xs
-rising_below x [] r = tt
-rising_below x (y ∷ ys) r = (below_last y x ys r.0, rising_below x ys r.1)
-
 -- cursors whose words are in order are in order
 before_from : (c d : Cursor) → d.offset < offset_span → packed c < packed d → IsBefore c d
 before_from c d fits l = ⊎_elim (λ q. inl q) (λ q. inr (omega arith, omega arith)) (cases_lt c.block d.block)
@@ -79,34 +70,6 @@ other_word c w n e = n (sym (ap packed e ∙ repacked w))
 
 tested_other : (x y : Cursor) → ((x.block == y.block) && (x.offset == y.offset)) ≡ false → x ≢ y
 tested_other x y apart e = both_ways _ apart (and_from _ _ (eq-eqb x.block y.block (ap (λ (c : Cursor). c.block) e)) (eq-eqb x.offset y.offset (ap (λ (c : Cursor). c.offset) e)))
-
--- a number that does not stand in a list is none of it
-none_is : (p : ℕ) (xs : List ℕ) → times p xs ≡ 0 → AllByRecursion (λ q. q ≢ p) xs
-none_is p [] e = tt
-none_is p (x ∷ xs) e =
-    let t = times-cons p x xs in
-    ((λ (h : x ≡ p). not_there p xs (subst (λ (y : ℕ). cond (y == p) 1 0 + times p xs ≡ 0) h (sym t ∙ e))), none_is p xs (omega arith))
-
-one_self : (p : ℕ) → one_at p p ≡ 1
-one_self p = grind (arith, nat_tests)
-
--- a place that stands once in a list of items is that of one item
-one_item : (items : List Placed) (i k : ℕ) (x y : Placed) → slice_get items i ≡ Some x → slice_get items k ≡ Some y → x.place ≡ y.place → times y.place (places items) ≤ 1 → x ≡ y
-one_item [] i k x y at there e few = cc
-one_item (z ∷ zs) zero zero x y at there e few = cc
-one_item (z ∷ zs) zero (suc k) x y at there e few =
-    let h : z ≡ x = cc in
-    let one : one_at z.place y.place ≡ 1 = ap (λ (p : ℕ). one_at p y.place) (ap (λ (q : Placed). q.place) h ∙ e) ∙ one_self y.place in
-    let t : times y.place (places (z ∷ zs)) ≡ one_at z.place y.place + times y.place (places zs) = times-cons y.place z.place (places zs) in
-    let c = counted zs k y there in absurd (omega arith)
-one_item (z ∷ zs) (suc i) zero x y at there e few =
-    let h : z ≡ y = cc in
-    let one : one_at z.place y.place ≡ 1 = ap (λ (q : Placed). one_at q.place y.place) h ∙ one_self y.place in
-    let t : times y.place (places (z ∷ zs)) ≡ one_at z.place y.place + times y.place (places zs) = times-cons y.place z.place (places zs) in
-    let c : 1 ≤ times y.place (places zs) = subst (λ (p : ℕ). 1 ≤ times p (places zs)) e (counted zs i x at) in absurd (omega arith)
-one_item (z ∷ zs) (suc i) (suc k) x y at there e few =
-    let t : times y.place (places (z ∷ zs)) ≡ one_at z.place y.place + times y.place (places zs) = times-cons y.place z.place (places zs) in
-    one_item zs i k x y at there e (omega arith)
 
 module _ (g : Grid) (front back : Front) (ws : List ℕ) (vs : List View) (id : ℕ) (v : View) (limits : IsWithinLimits g) (s : IsSoundAt g front back ws vs) (here : slice_get vs id ≡ Some v) where
   abbrev w : MachineState
@@ -135,7 +98,7 @@ module _ (g : Grid) (front back : Front) (ws : List ℕ) (vs : List View) (id : 
           reserved = λ q l. let o = s.counts.read_once q in let z = one_in q back.next (omega arith) in omega arith;
           not_reserved = from;
         },
-        (λ q h. All-contains (λ (r : ℕ). r ≢ p) (places v.made) q (All-from_recursion _ (places v.made) (none_is p (places v.made) (omega arith))) h),
+        not_among p (places v.made) (omega arith),
         All-from_recursion (λ (q : ℕ). q < p) (places v.taken) below,
       )
 
@@ -175,21 +138,6 @@ module _ (g : Grid) (front back : Front) (ws : List ℕ) (vs : List View) (id : 
       → Tells g (record { words = ws; views = vs }) v p (filled turn first (unpacked old))
   filled_tells p turn first head old f from differ = pick_equal (Tells g (record { words = ws; views = vs }) v p) turn 1 _ _ (λ e. tt) (λ n. ⊎_elim (λ e. absurd (n e)) (λ q. differ (omega (arith, q.below))) f)
 
-  -- an item of the seat at a made place is the one that was made there
-  own_item : (p : ℕ) (words read : List ℕ) → IsMade vs (placed p read) → Contains v.made (placed p words) → words ≡ read
-  own_item p words read made own =
-      let at : slice_get v.made own.0 ≡ Some (placed p words) = slice_get-get_or v.made own.0 (placed p words) own.1 ∙ ap Some own.2 in
-      let once = made_once g front back ws vs s p in
-      let to = one_to p front.next in
-      let mine = counted v.made own.0 (placed p words) at in
-      let theirs = counted made.view.made made.number (placed p read) made.there in
-      let same : placed p words ≡ placed p read = ⊎_elim
-      (λ e. let u : made.view ≡ v = let q : slice_get vs id ≡ Some made.view = subst (λ (k : ℕ). slice_get vs k ≡ Some made.view) e made.at in cc in
-      one_item v.made own.0 made.number (placed p words) (placed p read) at (subst (λ (x : View). slice_get x.made made.number ≡ Some (placed p read)) u made.there) refl (let o = one_le_sum (makes p) vs id v here in omega arith))
-      (λ n. absurd (let two = two_le_sum (makes p) vs id made.seat v made.view here made.at n in omega arith))
-      (cases_eq made.seat id) in
-      ap (λ (x : Placed). x.words) same
-
   -- what the side of puts and what takes remember of the seat
   stood : (p : Phase) → v.phase ≡ Some p → PutKnows g front.last (put_cursors g ws) (stage p)
   stood p e = put_loads.knows_at stage_of g front ws vs id v v s.puts.places here (stage p) (ap (stage_in stage) e)
@@ -208,10 +156,7 @@ module _ (g : Grid) (front back : Front) (ws : List ℕ) (vs : List View) (id : 
       let is = found s.puts.places.words limits.blocks_from (physical g ws 2) head f.1.to in
       pick_less (Tells g w v (AddA turn first head)) (allocated_word g ws head % offset_span) g.size _ _ (λ l. tt) (λ l. filled_tells (AddA turn first head) turn first head (allocated_word g ws head) f.0 is.from (λ q. q))
   step_tells (Write at next) e = pick_less (Tells g w v (Write at next)) (next + 1) g.width _ _ (λ l. tt) (λ l. tt)
-  step_tells (Commit at) e = record {
-    at_end = refl;
-    beyond = All-from_recursion (λ (q : ℕ). q < place_at g at) (places v.made) (rising_below (place_at g at) (places v.made) (subst IsRising (ap (λ (ph : Option Phase). places v.made ++ held g ph) e) (s.puts.places.each id v here).rising));
-  }
+  step_tells (Commit at) e = gains v.made (placed (place_at g at) v.entry) (subst IsRising (ap (λ (ph : Option Phase). places v.made ++ held g ph) e) (s.puts.places.each id v here).rising)
   step_tells (SeeX full) e =
       let f = stood (SeeX full) e in
       by_test_le (older_consumed g full.block) (consumed_word g ws (full.block + 1)) (λ c. Tells g w v (SeeX full) (if c then Next (OpenM full) else Next (SeeR full (unpacked (consumed_word g ws (full.block + 1)))))) (λ l. tt) (full_seen full f)
@@ -252,12 +197,10 @@ module _ (g : Grid) (front back : Front) (ws : List ℕ) (vs : List View) (id : 
       (λ n. before_from r (unpacked x) (mod_below x offset_span (omega arith)) (let q = repacked x in omega (arith, f.0.known)))
   step_tells (Take (Read at next)) e = pick_less (Tells g w v (Take (Read at next))) (next + 1) g.width _ _ (λ l. tt) (λ l. tt)
   step_tells (Take (Consume at)) e =
-      let f = knows_at g limits front back ws vs s id v here (Consume at) e in (
-        record {
-          at_end = refl;
-          beyond = All-from_recursion (λ (q : ℕ). q < place_at g at) (places v.taken) (rising_below (place_at g at) (places v.taken) (subst IsRising (ap (λ (ph : Option Phase). places v.taken ++ reading g ph) e) (s.each id v here).rising));
-        },
-        λ words own. own_item (place_at g at) words v.read f.1 own,
+      let f = knows_at g limits front back ws vs s id v here (Consume at) e in
+      let place : ℕ = place_at g at in (
+        gains v.taken (placed place v.read) (subst IsRising (ap (λ (ph : Option Phase). places v.taken ++ reading g ph) e) (s.each id v here).rising),
+        λ words own. own_item stage_of g front (put_cursors g ws) vs s.puts.places id v here place words v.read f.1 own,
       )
   step_tells (Take (NextCom sp)) e =
       let f = knows_at g limits front back ws vs s id v here (NextCom sp) e in

@@ -126,6 +126,10 @@ module _ (g : Grid) (events : List Event) (limits : IsWithinLimits g) (suits : A
         was_empty = subst (λ (n : ℕ). EmptyAt g (moment table g events n) p) (sym at) l.shows.tells.0;
       }
 
+  -- where a take answers that the queue is empty, it was so at its last step
+  pub empty_there : (i seat p : ℕ) → EndsAt table g events i seat (answer.Take (take.Empty p)) → EmptyAt g (moment table g events i) p
+  empty_there i seat p x = let l = last i seat _ x in subst (λ (n : ℕ). EmptyAt g (moment table g events n) p) l.position l.shows.tells.0
+
   pub put_busy : (i seat : ℕ) (reason : Why) → EndsAt table g events i seat (answer.Put (put.Busy reason)) → BusyShown (PutPair g reason) (steps_of table g events seat (suc i)) reason
   put_busy i seat reason x = let l = last i seat _ x in subst (λ (steps : List CallStep). BusyShown (PutPair g reason) steps reason) (sym l.whole) (busy_shown (PutPair g reason) (l.before ++ l.last ∷ []) l.last reason l.shows.shows l.shows.tells)
 

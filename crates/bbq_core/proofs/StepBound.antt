@@ -1,5 +1,5 @@
 -- A call ends within its bound, since the rank of its phase falls at each step.
-use Rattle.std.proofs.Common.{◌≡◌, ℕ, ◌+◌, ◌-◌, ◌/◌, ◌%◌, ◌<◌, ◌≤◌, refl, ap, arith}
+use Rattle.std.proofs.Common.{◌≡◌, ℕ, ◌+◌, ◌-◌, ◌/◌, ◌%◌, ◌<◌, ◌≤◌, refl, ap, subst, arith}
 use Rattle.std.specs.Prelude.{Bool, true, false, if◌then◌else◌}
 use Rattle.cursor_word.specs.Shape.{Grid}
 use Rattle.cursor_word.specs.Cursor.{offset_span, packed, unpacked}
@@ -15,7 +15,7 @@ use Rattle.bbq_core.specs.TakeSteps.{by_turn, is_same, passed}
 use Rattle.bbq_core.specs.Laws.{steps_of_answer, steps_of_phase}
 use Rattle.put_side.proofs.Sums.{by_test_le}
 use Rattle.machine.specs.Bounds as bounds
-use Rattle.machine.specs.Bounds.{IsBounded}
+use Rattle.machine.specs.Bounds.{IsBounded, IsRanked, call_bound}
 use Rattle.bbq_core.specs.Table.{table}
 use Rattle.bbq_core.proofs.Loads.{by_equal, pick_equal, pick_less, pick_same}
 
@@ -80,3 +80,43 @@ leads g (Take (RaiseC sp)) old r = (omega arith, refl)
 
 pub bounded : IsBounded table steps_of_phase steps_of_answer
 bounded = record { first_put = λ g. omega arith; first_take = λ g taken. omega arith; leads = leads }
+
+abbrev LeadsOn : Grid → Phase → After → Type 0
+LeadsOn g p b = Leads g (rank g p) (steps_of_phase g p) b
+
+some_from : (g : Grid) (p : Phase) (b : After) → LeadsOn g p b → 1 ≤ rank g p
+some_from g p (Next q) l = let r = l.0 in omega arith
+some_from g p (Done a) l = l.0
+
+turn_within : (turn a b most : ℕ) → a ≤ most → b ≤ most → by_turn turn a b ≤ most
+turn_within turn a b most h l = by_equal turn 1 (λ c. (if c then a else b) ≤ most) (λ e. h) (λ n. l)
+
+within : (g : Grid) (p : Phase) → rank g p ≤ call_bound g
+within g (HeadP turn first) = turn_within turn (g.width + 11) (g.width + 4) (g.width + 12) (omega arith) (omega arith)
+within g (SeeA turn first head) = turn_within turn (g.width + 10) (g.width + 3) (g.width + 12) (omega arith) (omega arith)
+within g (AddA turn first head) = turn_within turn (g.width + 9) (g.width + 2) (g.width + 12) (omega arith) (omega arith)
+within g (Write at next) = omega arith
+within g (Commit at) = omega arith
+within g (SeeX full) = omega arith
+within g (SeeR full x) = omega arith
+within g (OpenM full) = omega arith
+within g (OpenA full) = omega arith
+within g (RaiseP full) = omega arith
+within g (Take (HeadC turn first)) = turn_within turn (g.width + 12) (g.width + 6) (g.width + 12) (omega arith) (omega arith)
+within g (Take (SeeRes turn first head)) = turn_within turn (g.width + 11) (g.width + 5) (g.width + 12) (omega arith) (omega arith)
+within g (Take (SeeCom r)) = omega arith
+within g (Take (SeeAll r m)) = omega arith
+within g (Take (Reserve r)) = omega arith
+within g (Take (Read at next)) = omega arith
+within g (Take (Consume at)) = omega arith
+within g (Take (NextCom spent)) = omega arith
+within g (Take (OpenX spent)) = omega arith
+within g (Take (OpenR spent)) = omega arith
+within g (Take (RaiseC spent)) = omega arith
+
+pub ranked : IsRanked table
+ranked = record {
+  some_left = λ g p range. some_from g p (after g p 0) (leads g p 0 range);
+  within = λ g p range. within g p;
+  falls = λ g p next found range is. (subst (LeadsOn g p) is (leads g p found range)).0;
+}

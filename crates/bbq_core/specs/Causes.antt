@@ -22,7 +22,8 @@ pub record FoundBy (Is : Phase → Type 0) (c : Cursor) (steps : List CallStep) 
   pub kind : Is step.phase
   pub found : unpacked step.found ≡ c
 
--- a step of this turn that finds the allocated cursor of the head's block, and one that finds its reserved cursor
+-- a step of this turn that finds the allocated cursor of the head's block, and one that finds its
+-- reserved cursor
 abbrev pub FindsAllocated : ℕ → Phase → Type 0
 FindsAllocated turn (SeeA t first head) = t ≡ turn
 FindsAllocated turn (AddA t first head) = t ≡ turn
@@ -32,9 +33,12 @@ abbrev pub FindsReserved : ℕ → Phase → Type 0
 FindsReserved turn (Take (SeeRes t first head)) = t ≡ turn
 FindsReserved turn p = ⊥
 
--- a call that answers Full found the allocated cursor of the head; in its last step but one it loaded the consumed cursor in the place of
--- the next block, and the queue was full then; and in its last step it found the reserved cursor there to be the same
-pub record FullShown (g : Grid) (events : List Event) (steps : List CallStep) (head : ℕ) (consumed : Cursor) : Type 0 where
+-- a call that answers Full found the allocated cursor of the head; in its last step but one it
+-- loaded the consumed cursor in the place of
+-- the next block, and the queue was full then; and in its last step it found the reserved cursor
+-- there to be the same
+pub record FullShown (shape : Grid) (events : List Event) (steps : List CallStep) (head : ℕ)
+    (consumed : Cursor) : Type 0 where
   pub full : Cursor
   pub block : full.block ≡ head
   pub filled : FoundBy (FindsAllocated 1) full steps
@@ -43,24 +47,31 @@ pub record FullShown (g : Grid) (events : List Event) (steps : List CallStep) (h
   pub in_order : filled.number < load.number
   pub last_but_one : suc load.number ≡ last.number
   pub is_last : suc last.number ≡ length steps
-  pub was_full : FullAt g (moment table g events load.step.position) head consumed
+  pub was_full : FullAt shape (moment table shape events load.step.position) head consumed
 
--- the last step p of a take that answers Empty, where it found this cursor after the reserved cursor: the committed cursor is the same,
--- and this is its place; or the block is spent and the next one is not opened, and this is that one's first place
+-- the last step p of a take that answers Empty, where it found this cursor after the reserved
+-- cursor: the committed cursor is the same,
+-- and this is its place; or the block is spent and the next one is not opened, and this is that
+-- one's first place
 abbrev pub EmptyBy : Grid → ℕ → Cursor → Cursor → Phase → Type 0
-EmptyBy g place reserved found (Take (SeeCom r)) = (r ≡ reserved) × (found ≡ reserved) × (place ≡ place_at g reserved)
-EmptyBy g place reserved found (Take (NextCom sp)) = (sp ≡ reserved) × (found.block < reserved.block + 1) × (place ≡ first_of g (reserved.block + 1))
-EmptyBy g place reserved found p = ⊥
+EmptyBy shape place reserved found (Take (SeeCom r)) =
+    (r ≡ reserved) × (found ≡ reserved) × (place ≡ place_at shape reserved)
+EmptyBy shape place reserved found (Take (NextCom sp)) =
+    (sp ≡ reserved) × (found.block < reserved.block + 1)
+    × (place ≡ first_of shape (reserved.block + 1))
+EmptyBy shape place reserved found p = ⊥
 
--- a call that answers Empty found a reserved cursor, and in its last step a committed one, and the queue was empty then
-pub record EmptyShown (g : Grid) (events : List Event) (steps : List CallStep) (place : ℕ) : Type 0 where
+-- a call that answers Empty found a reserved cursor, and in its last step a committed one, and the
+-- queue was empty then
+pub record EmptyShown (shape : Grid) (events : List Event) (steps : List CallStep)
+    (place : ℕ) : Type 0 where
   pub reserved : Cursor
   pub committed : Cursor
   pub first : FoundBy (λ p. (turn : ℕ) × FindsReserved turn p) reserved steps
-  pub last : FoundBy (EmptyBy g place reserved committed) committed steps
+  pub last : FoundBy (EmptyBy shape place reserved committed) committed steps
   pub in_order : first.number < last.number
   pub is_last : suc last.number ≡ length steps
-  pub was_empty : EmptyAt g (moment table g events last.step.position) place
+  pub was_empty : EmptyAt shape (moment table shape events last.step.position) place
 
 -- the two cursors of a Busy answer, in the order in which they were found
 abbrev pub first_found : Why → Cursor
@@ -71,32 +82,42 @@ abbrev pub second_found : Why → Cursor
 second_found (why.Unfinished block before after) = after
 second_found (why.Moved earlier later) = later
 
--- the step p that finds the first cursor of a put's Busy answer, and the step q that finds the second:
--- the consumed cursor in the place of the next block and then the reserved one there, or the allocated cursor in each turn
+-- the step p that finds the first cursor of a put's Busy answer, and the step q that finds the
+-- second:
+-- the consumed cursor in the place of the next block and then the reserved one there, or the
+-- allocated cursor in each turn
 abbrev pub PutPair : Grid → Why → Phase → Phase → Type 0
-PutPair g (why.Unfinished block before after) p (SeeR full x) = (p ≡ SeeX full) × (block ≡ full.block + 1 - g.blocks)
-PutPair g (why.Unfinished block before after) p q = ⊥
-PutPair g (why.Moved earlier later) p q = FindsAllocated 1 p × FindsAllocated 2 q
+PutPair shape (why.Unfinished block before after) p (SeeR full x) =
+    (p ≡ SeeX full) × (block ≡ full.block + 1 - shape.blocks)
+PutPair shape (why.Unfinished block before after) p q = ⊥
+PutPair shape (why.Moved earlier later) p q = FindsAllocated 1 p × FindsAllocated 2 q
 
--- and those of a take's: the committed cursor and then the allocated one; the reserved cursor in each turn; the reserved cursor and then
--- the committed one; or the reserved cursor and then the reserved cursor again, where this take would have reserved
+-- and those of a take's: the committed cursor and then the allocated one; the reserved cursor in
+-- each turn; the reserved cursor and then
+-- the committed one; or the reserved cursor and then the reserved cursor again, where this take
+-- would have reserved
 abbrev pub TakePair : Why → Phase → Phase → Type 0
-TakePair (why.Unfinished block before after) p (Take (SeeAll r m)) = (p ≡ Take (SeeCom r)) × (block ≡ m.block)
+TakePair (why.Unfinished block before after) p (Take (SeeAll r m)) =
+    (p ≡ Take (SeeCom r)) × (block ≡ m.block)
 TakePair (why.Unfinished block before after) p q = ⊥
-TakePair (why.Moved earlier later) p (Take (SeeRes turn first head)) = (turn ≡ 2) × FindsReserved 1 p
+TakePair (why.Moved earlier later) p (Take (SeeRes turn first head)) =
+    (turn ≡ 2) × FindsReserved 1 p
 TakePair (why.Moved earlier later) p (Take (SeeCom r)) = (turn : ℕ) × FindsReserved turn p
 TakePair (why.Moved earlier later) p (Take (SeeAll r m)) = p ≡ Take (SeeCom r)
 TakePair (why.Moved earlier later) p (Take (Reserve r)) = (turn : ℕ) × FindsReserved turn p
 TakePair (why.Moved earlier later) p q = ⊥
 
--- the two cursors differ; where a word moved, the later one is of a greater block, or only greater where another take reserved
+-- the two cursors differ; where a word moved, the later one is of a greater block, or only greater
+-- where another take reserved
 abbrev pub Differ : Why → Phase → Type 0
 Differ (why.Unfinished block before after) q = before ≢ after
 Differ (why.Moved earlier later) (Take (Reserve r)) = IsBefore earlier later
 Differ (why.Moved earlier later) q = earlier.block < later.block
 
--- a call that answers Busy found the second cursor in its last step, and the first in an earlier one
-pub record BusyShown (Pair : Phase → Phase → Type 0) (steps : List CallStep) (reason : Why) : Type 0 where
+-- a call that answers Busy found the second cursor in its last step, and the first in an earlier
+-- one
+pub record BusyShown (Pair : Phase → Phase → Type 0) (steps : List CallStep)
+    (reason : Why) : Type 0 where
   pub earlier : FoundBy (λ p. Unit {0}) (first_found reason) steps
   pub later : FoundBy (λ q. Pair earlier.step.phase q) (second_found reason) steps
   pub in_order : earlier.number < later.number

@@ -31,7 +31,8 @@ pub record IsOpen (shape : Grid) (back : Front) (top : ℕ) : Type 0 where
   pub within : top % offset_span ≤ shape.size
   pub at : back.next ≡ place shape back.last (top % offset_span)
 
--- or it is still that of the spent block before it in the same physical block, and the next place is
+-- or it is still that of the spent block before it in the same physical block, and the next place
+-- is
 -- the first of the last block, while the take that opened that block goes on
 pub record IsHalfOpen (shape : Grid) (back : Front) (consumer top : ℕ) : Type 0 where
   pub older : top / offset_span + shape.blocks ≡ back.last

@@ -14,10 +14,13 @@ use Rattle.rail.specs.Sequential.{RetryPut, retry_take}
 
 -- a call that is begun so is answered as one thread is, where n entries are accepted and t taken
 abbrev pub AnswersAsOne : Grid → ℕ → ℕ → Start → Option Answer → Type 0
-AnswersAsOne g n t (start.Put entry) (Some (answer.Put p)) = RetryPut g n t p
-AnswersAsOne g n t start.Take (Some (answer.Take q)) = q ≡ retry_take n t
-AnswersAsOne g n t begun a = ⊥
+AnswersAsOne shape n t (start.Put entry) (Some (answer.Put p)) = RetryPut shape n t p
+AnswersAsOne shape n t start.Take (Some (answer.Take q)) = q ≡ retry_take n t
+AnswersAsOne shape n t begun a = ⊥
 
--- the call of a seat from moment n to moment m is answered as one thread is, by what is made and taken at moment n
+-- the call of a seat from moment n to moment m is answered as one thread is, by what is made and
+-- taken at moment n
 abbrev pub AnsweredAsOne : Grid → List Event → ℕ → ℕ → ℕ → Start → Type 0
-AnsweredAsOne g events seat n m begun = AnswersAsOne g (made_total (moment table g events n).views) (taken_total (moment table g events n).views) begun (answer_of table g events m seat)
+AnsweredAsOne shape events seat n m begun =
+    AnswersAsOne shape (made_total (moment table shape events n).views)
+    (taken_total (moment table shape events n).views) begun (answer_of table shape events m seat)

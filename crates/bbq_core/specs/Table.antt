@@ -21,13 +21,13 @@ reading p = Unread
 
 -- each seat may begin each call
 abbrev pub MayBegin : Grid → ℕ → Start → Type 0
-MayBegin g seat begins = Unit {0}
+MayBegin shape seat begins = Unit {0}
 
 abbrev pub table : Table Phase
 table =
     record {
       first_put = first_put;
-      first_take = λ g taken. first_take;
+      first_take = λ shape taken. first_take;
       want = want;
       after = after;
       is_put = is_put;

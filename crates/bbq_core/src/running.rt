@@ -9,7 +9,7 @@ impl CallPhase for Phase {
     ghost drops = { false };
 
     #[inline(always)]
-    fn stage(&self) -> u64 {
+    fn usual_step(&self) -> u64 {
         match *self {
             Phase::HeadP { .. } => 0,
             Phase::SeeA { .. } => 1,

@@ -43,4 +43,6 @@ impl machine::Phase for Phase {
     }
 
     fn keeps() {}
+
+    fn ends() {}
 }

@@ -13,35 +13,40 @@ use Rattle.machine.specs.Table.{Table}
 use Rattle.machine.specs.Invariant.{Fact, made_total}
 use Rattle.machine.specs.Steps.{finds, view_after}
 
-module _ {P : Type 0} (t : Table P) (g : Grid) where
+module _ {P : Type 0} (table : Table P) (shape : Grid) where
   -- Steps that left these values in a trail lead from the one to the other, where the call has this
   -- entry in hand.
   abbrev pub ValuesLead : List ℕ → After P → List ℕ → After P → Type 0
   ValuesLead entry from [] to = from ≡ to
-  ValuesLead entry (Next p) (value ∷ values) to =
-      (noted (t.want g p entry) value ≡ value) × ValuesLead entry (t.after g p value) values to
+  ValuesLead entry (Next phase) (value ∷ values) to =
+      (noted (table.want shape phase entry) value ≡ value)
+      × ValuesLead entry (table.after shape phase value) values to
   ValuesLead entry (Done a) (value ∷ values) to = ⊥
 
   -- the phase in which the call of a seat began that is now in this one
   abbrev pub first_phase : View P → P → P
-  first_phase v p = if t.is_put p then t.first_put else t.first_take g v.taken
+  first_phase view phase =
+      if table.is_put phase then table.first_put else table.first_take shape view.taken
 
   -- the seat's trail has what its call found, from its first step up to this phase
   abbrev pub HasTrail : View P → P → Type 0
-  HasTrail v p = (entry : List ℕ) × ValuesLead entry (Next (first_phase v p)) v.trail (Next p)
+  HasTrail view phase =
+      (entry : List ℕ) × ValuesLead entry (Next (first_phase view phase)) view.trail (Next phase)
 
 -- What a queue promises of an answer, where the seat stood so before the step that answers and so
 -- after it, and a take hands out what it has read.
 abbrev pub Promises : {P : Type 0} → Grid → Bool → View P → View P → Answer → Type 0
-Promises g drops old new (answer.Put a) = Puts g drops old.entry old.made new.made new.trail a
-Promises g drops old new (answer.Take a) =
-    Takes g drops new.made new.read new.read old.taken new.taken new.trail a
+Promises shape drops old new (answer.Put a) =
+    Puts shape drops old.entry old.made new.made new.trail a
+Promises shape drops old new (answer.Take a) =
+    Takes shape drops new.made new.read new.read old.taken new.taken new.trail a
 
 -- each answer that a step of a seat gives is as promised
 abbrev pub KeepsPromises : {P : Type 0} → Table P → Fact P → Bool → Type 0
-KeepsPromises {P} t Holds drops =
-    (g : Grid) (ws : List ℕ) (vs : List (View P)) (id : ℕ) (v : View P) (p : P) (a : Answer)
-    → IsWithinLimits g → Holds g ws vs → made_total vs ≤ place_span g
-    → slice_get vs id ≡ Some v → v.phase ≡ Some p → HasTrail t g v p
-    → t.after g p (finds t g ws v p) ≡ Done a
-    → Promises g drops v (view_after t g ws v p) a
+KeepsPromises {P} table Holds drops =
+    (shape : Grid) (words : List ℕ) (views : List (View P)) (id : ℕ) (view : View P) (phase : P)
+    (a : Answer)
+    → IsWithinLimits shape → Holds shape words views → made_total views ≤ place_span shape
+    → slice_get views id ≡ Some view → view.phase ≡ Some phase → HasTrail table shape view phase
+    → table.after shape phase (finds table shape words view phase) ≡ Done a
+    → Promises shape drops view (view_after table shape words view phase) a

@@ -9,9 +9,9 @@ use Rattle.machine.specs.Invariant.{Fact}
 -- the order of the seats is of no matter
 abbrev pub IsOrderless : {P : Type 0} → Fact P → Type 0
 IsOrderless {P} Holds =
-    (g : Grid) (ws : List ℕ) (vs us : List (View P))
-    → IsPermutation vs us → Holds g ws vs → Holds g ws us
+    (shape : Grid) (words : List ℕ) (views us : List (View P))
+    → IsPermutation views us → Holds shape words views → Holds shape words us
 
 -- each seat may begin each call
 abbrev pub AllMayBegin : {P : Type 0} → Table P → Type 0
-AllMayBegin t = (g : Grid) (seat : ℕ) (call : Start) → t.MayBegin g seat call
+AllMayBegin table = (shape : Grid) (seat : ℕ) (call : Start) → table.MayBegin shape seat call

@@ -13,7 +13,7 @@ pub trait CallPhase: Phase {
 
     /// The number of the phase on the usual way of its call. Only the speed of the code depends on
     /// it.
-    fn stage(&self) -> u64;
+    fn usual_step(&self) -> u64;
 
     /// The laws of the machine's calls. It does nothing when it runs.
     fn calls()

@@ -3,7 +3,7 @@ use Rattle.std.proofs.Common.{◌≡◌, ℕ, Bool, List, [], ◌∷◌, refl, s
 use Rattle.std.specs.Prelude.{None}
 use Rattle.cursor_word.specs.Shape.{Grid}
 use Rattle.rail.specs.declared.answer.Answer.{Answer}
-use Rattle.step_log.specs.declared.step.Taken.{Taken}
+use Rattle.step_log.specs.declared.log.Step.{Step}
 use Rattle.step_log.specs.Log.{Sitting}
 use Rattle.machine.specs.declared.view.View.{View}
 use Rattle.machine.specs.declared.op.After.{After}
@@ -15,7 +15,7 @@ use Rattle.call_steps.specs.Rule.{Rule, RunsCalls, value_of}
 use Rattle.call_steps.specs.Call.{Leads, Walks}
 use Rattle.call_steps.specs.Midway.{Call, Took}
 
-next_of : {P : Type 0} (t : Table P) (g : Grid) (entry : List ℕ) (s b : After P) (j : Taken) (js : List Taken) → Leads t g entry s (j ∷ js) b → (p : P) × (s ≡ Next p)
+next_of : {P : Type 0} (t : Table P) (g : Grid) (entry : List ℕ) (s b : After P) (j : Step) (js : List Step) → Leads t g entry s (j ∷ js) b → (p : P) × (s ≡ Next p)
 next_of t g entry (Next p) b j js l = (p, refl)
 next_of t g entry (Done a) b j js l = absurd l
 
@@ -37,7 +37,7 @@ module _ {P V : Type 0} (t : Table P) (drops : Bool) (r : Rule P V) where
 
   module _ {K : Type 0} (holds : K → List ℕ → List V → Type 0) (laws : RunsCalls r t drops holds) where
     module _ (g : Grid) (entry : List ℕ) (w : V) (a : Answer) where
-      last_from : (ks : List Taken) (p : P) (x : ℕ) (v : V) → r.grid_of v ≡ g → r.Sits v → r.Tells v p x → Leads t g entry (t.after g p x) ks (Done a) → Walks t r g (t.after g p x) (r.moves_to v p x) ks w → LastTold g v a
+      last_from : (ks : List Step) (p : P) (x : ℕ) (v : V) → r.grid_of v ≡ g → r.Sits v → r.Tells v p x → Leads t g entry (t.after g p x) ks (Done a) → Walks t r g (t.after g p x) (r.moves_to v p x) ks w → LastTold g v a
       last_from [] p x v grid sits told l walk = record { view = v; phase = p; found = x; grid = grid; answers = l; told = told; made = refl; taken = refl }
       last_from (j ∷ js) p x v grid sits told l walk =
           let n = next_of t g entry (t.after g p x) (Done a) j js l in
@@ -52,7 +52,7 @@ module _ {P V : Type 0} (t : Table P) (drops : Bool) (r : Rule P V) where
           let last = last_from js q (value_of j) (r.moves_to v p x) (moved.1 ∙ grid) moved.2 walk'.0 l'.1 walk'.1 in
           record { view = last.view; phase = last.phase; found = last.found; grid = last.grid; answers = last.answers; told = last.told; made = last.made ∙ made; taken = last.taken ∙ taken }
 
-      last_told : (steps : List Taken) (p : P) (v : V) → r.grid_of v ≡ g → r.Sits v → Leads t g entry (Next p) steps (Done a) → Walks t r g (Next p) v steps w → LastTold g v a
+      last_told : (steps : List Step) (p : P) (v : V) → r.grid_of v ≡ g → r.Sits v → Leads t g entry (Next p) steps (Done a) → Walks t r g (Next p) v steps w → LastTold g v a
       last_told [] p v grid sits l walk = absurd (subst IsDone (sym l) tt)
       last_told (k ∷ ks) p v grid sits l walk = last_from ks p (value_of k) v grid sits walk.0 l.1 walk.1
 

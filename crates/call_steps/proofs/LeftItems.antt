@@ -1,23 +1,24 @@
 -- Reading what is left, word by word and place by place.
 use Rattle.std.proofs.Common.{◌≡◌, ℕ, zero, suc, ◌+◌, ◌-◌, ◌%◌, ◌<◌, ◌≤◌, List, [], ◌∷◌, ◌++◌, length, map, set, take, refl, sym, ap, ◌∙◌, append_assoc, arith}
-use Rattle.std.specs.Prelude.{slice_index}
+use Rattle.std.specs.Prelude.{Bool, cond, filter, slice_index}
 use Rattle.std.specs.List.{range_with_len}
 use mathlib.Core.Option.{some}
 use lib.ListN.{get_elem?}
 use Rattle.std.proofs.lemmas.List.{take_more_set}
-use Rattle.std.proofs.lemmas.List.FromFn.{map-range_with_len_more}
+use Rattle.std.proofs.lemmas.List.FromFn.{filter_of_map_range_with_len_more, map-range_with_len_more}
 use Rattle.cursor_word.specs.Shape.{Grid}
 use Rattle.cursor_word.specs.Cursor.{cursor_of}
 use Rattle.cursor_word.specs.Layout.{entry_index}
 use Rattle.cursor_word.specs.declared.cursor.Cursor.{Cursor}
 use Rattle.rail.specs.declared.entry.Placed.{Placed}
 use Rattle.rail.specs.Items.{placed}
-use Rattle.call_laws.specs.Left.{entry_at, left_in}
+use Rattle.machine.specs.Entries.{entry_at}
+use Rattle.call_laws.specs.Left.{is_unreserved, left_in, unreserved_in}
 
 map_more : {X : Type 0} (f : ℕ → X) (a n : ℕ) → map f (range_with_len a (suc n)) ≡ map f (range_with_len a n) ++ f (a + n) ∷ []
 map_more f a n = let one : suc n ≡ n + 1 = omega arith in ap (λ (k : ℕ). map f (range_with_len a k)) one ∙ map-range_with_len_more f a n (a + n) refl
 
-read_some : (words : List ℕ) (i x : ℕ) → get_elem? words i ≡ some x → slice_index words i ≡ x
+pub read_some : (words : List ℕ) (i x : ℕ) → get_elem? words i ≡ some x → slice_index words i ≡ x
 read_some [] i x e = cc
 read_some (w ∷ ws) zero x e = cc
 read_some (w ∷ ws) (suc i) x e = read_some ws i x e
@@ -48,3 +49,15 @@ left_more g stopped from place old items x le so_far is =
     ap (λ (l : List Placed). l ++ x ∷ []) so_far ∙ (append_assoc old (left_in g stopped from place) (x ∷ [])
     ∙ ap (λ (l : List Placed). old ++ l)
     (ap (λ (y : Placed). left_in g stopped from place ++ y ∷ []) (is ∙ ap f (sym last)) ∙ sym (ap (λ (n : ℕ). map f (range_with_len from n)) one ∙ map_more f from (place - from))))
+
+-- those whose places no take has reserved, with one place more
+pub unreserved_more : (g : Grid) (stopped : List ℕ) (from place : ℕ) (old items : List Placed) (free : Bool) → from ≤ place → items ≡ old ++ unreserved_in g stopped from place → is_unreserved g stopped (placed place []) ≡ free
+    → items ++ cond free (placed place (entry_at g stopped place) ∷ []) [] ≡ old ++ unreserved_in g stopped from (place + 1)
+unreserved_more g stopped from place old items free le so_far is =
+    let f : ℕ → Placed = λ (p : ℕ). placed p (entry_at g stopped p) in
+    let one : place + 1 - from ≡ place - from + 1 = omega arith in
+    let last : from + (place - from) ≡ place = omega arith in
+    let more = filter_of_map_range_with_len_more (is_unreserved g stopped) f from (place - from) place last in
+    ap (λ (l : List Placed). l ++ cond free (f place ∷ []) []) so_far ∙ (append_assoc old (unreserved_in g stopped from place) (cond free (f place ∷ []) [])
+    ∙ ap (λ (l : List Placed). old ++ l)
+    (ap (λ (b : Bool). unreserved_in g stopped from place ++ cond b (f place ∷ []) []) (sym is) ∙ sym (ap (λ (n : ℕ). filter (is_unreserved g stopped) (map f (range_with_len from n))) one ∙ more)))

@@ -10,7 +10,7 @@ use Rattle.rail.specs.declared.answer.Answer.{Answer}
 use Rattle.rail.specs.declared.answer.Answer.TheVariants as answer
 use Rattle.rail.specs.declared.answer.Put.{Put}
 use Rattle.rail.specs.declared.answer.Take.{Take}
-use Rattle.step_log.specs.declared.step.Taken.{Taken}
+use Rattle.step_log.specs.declared.log.Step.{Step}
 use Rattle.step_log.specs.Log.{Keeps, Sitting}
 use Rattle.machine.specs.declared.event.Start.{Start}
 use Rattle.machine.specs.declared.event.Start.TheVariants as start
@@ -32,13 +32,13 @@ use Rattle.call_steps.specs.Midway.{Call, IsAt, IsPutAt, IsPutOn, IsTakeAt, IsTa
 use Rattle.call_steps.proofs.Seen.{noted_value}
 use Rattle.call_steps.proofs.Follows.{PutFollows, TakeFollows, out_long, put_follows, put_takes_none, take_follows, take_makes_none, takes_out}
 
-leads_on : {P : Type 0} (t : Table P) (g : Grid) (entry : List ℕ) (s : After P) (ks : List Taken) (p : P) (k : Taken) (b : After P) → Leads t g entry s ks (Next p) → k ≡ logged (t.want g p entry) (value_of k) → t.after g p (value_of k) ≡ b
+leads_on : {P : Type 0} (t : Table P) (g : Grid) (entry : List ℕ) (s : After P) (ks : List Step) (p : P) (k : Step) (b : After P) → Leads t g entry s ks (Next p) → k ≡ logged (t.want g p entry) (value_of k) → t.after g p (value_of k) ≡ b
     → Leads t g entry s (ks ++ k ∷ []) b
 leads_on t g entry s [] p k b l wanted follows = subst (λ z. Leads t g entry z (k ∷ []) b) (sym l) (wanted, follows)
 leads_on t g entry (Next q) (j ∷ js) p k b l wanted follows = (l.0, leads_on t g entry (t.after g q (value_of j)) js p k b l.1 wanted follows)
 leads_on t g entry (Done a) (j ∷ js) p k b l wanted follows = l
 
-values_lead : {P : Type 0} (t : Table P) (g : Grid) (entry : List ℕ) (s : After P) (ks : List Taken) (b : After P) → Leads t g entry s ks b → ValuesLead t g entry s (map value_of ks) b
+values_lead : {P : Type 0} (t : Table P) (g : Grid) (entry : List ℕ) (s : After P) (ks : List Step) (b : After P) → Leads t g entry s ks b → ValuesLead t g entry s (map value_of ks) b
 values_lead t g entry s [] b l = l
 values_lead t g entry (Next p) (k ∷ ks) b l = (noted_value (t.want g p entry) (value_of k) ∙ ap value_of (sym l.0), values_lead t g entry (t.after g p (value_of k)) ks b l.1)
 values_lead t g entry (Done a) (k ∷ ks) b l = l
@@ -51,7 +51,7 @@ may_on g v w start.Go made may = may
 put_made : (old made new : List Placed) (hand entry : List ℕ) (a : Put) → made ≡ old → hand ≡ entry → PutLeaves made new hand a → PutLeaves old new entry a
 put_made old made new hand entry a same held leaves = subst (λ (l : List Placed). PutLeaves l new entry a) same (subst (λ (e : List ℕ). PutLeaves made new e a) held leaves)
 
-walks_on : {P V : Type 0} (t : Table P) (r : Rule P V) (g : Grid) (entry : List ℕ) (s : After P) (v : V) (ks : List Taken) (u : V) (p : P) (k : Taken) (w : V) → Walks t r g s v ks u → Leads t g entry s ks (Next p) → r.Tells u p (value_of k)
+walks_on : {P V : Type 0} (t : Table P) (r : Rule P V) (g : Grid) (entry : List ℕ) (s : After P) (v : V) (ks : List Step) (u : V) (p : P) (k : Step) (w : V) → Walks t r g s v ks u → Leads t g entry s ks (Next p) → r.Tells u p (value_of k)
     → w ≡ r.moves_to u p (value_of k) → Walks t r g s v (ks ++ k ∷ []) w
 walks_on t r g entry s v [] u p k w walk l tells moves =
     subst (λ z. Walks t r g z v (k ∷ []) w) (sym l) (subst (λ z. r.Tells z p (value_of k)) (sym walk) tells, ap (λ z. r.moves_to z p (value_of k)) walk ∙ sym moves)
@@ -68,8 +68,8 @@ module _ {P V : Type 0} (t : Table P) (drops : Bool) (r : Rule P V) where
 
   module _ (table : IsCallTable t) (reads : ReadsInOrder t) {K : Type 0} (holds : K → List ℕ → List V → Type 0) (laws : RunsCalls r t drops holds) where
     pub left_falls : (g : Grid) (p : P) (n : ℕ) (b : After P) → t.after g p n ≡ b → t.IsInRange g p → steps_left t g b < t.rank g p
-    left_falls g p n (Next q) is h = table.falls g p q n h is
-    left_falls g p n (Done a) is h = let some = table.some_left g p h in omega arith
+    left_falls g p n (Next q) is h = table.ranked.falls g p q n h is
+    left_falls g p n (Done a) is h = let some = table.ranked.some_left g p h in omega arith
 
     grid_in_call : (v : V) (s : Start) (ph : Option P) → r.Sits v → (r.view_of v).phase ≡ ph → r.grid_of (in_phase r v s ph) ≡ r.grid_of v
     grid_in_call v s None sits rest = (laws.call_begins v s sits rest).1
@@ -150,7 +150,7 @@ module _ {P V : Type 0} (t : Table P) (drops : Bool) (r : Rule P V) where
         view_on : r.view_of next.view ≡ seen t c.shape (r.view_of here_view) p x
         view_on = ap r.view_of moved_here.0 ∙ ((laws.phase_moves here_view p x here_sits).0 ∙ ap (λ (h : Grid). seen t h (r.view_of here_view) p x) here_grid)
 
-        abbrev step : Taken
+        abbrev step : Step
         step = logged (t.want c.shape p entry) x
 
         step_value : x ≡ value_of step
@@ -170,7 +170,7 @@ module _ {P V : Type 0} (t : Table P) (drops : Bool) (r : Rule P V) where
             ∙ (ap (λ (l : List ℕ). l ++ value_of step ∷ []) i.values ∙ sym (map-append value_of i.steps (step ∷ []))))
 
         log_next : next.log ≡ c.before.log ++ (i.steps ++ step ∷ [])
-        log_next = ap (λ (z : Sitting V). z.log) logs ∙ (ap (λ (q : Op). now.log ++ logged q x ∷ []) wants ∙ (ap (λ (l : List Taken). l ++ step ∷ []) i.log ∙ append_assoc c.before.log i.steps (step ∷ [])))
+        log_next = ap (λ (z : Sitting V). z.log) logs ∙ (ap (λ (q : Op). now.log ++ logged q x ∷ []) wants ∙ (ap (λ (l : List Step). l ++ step ∷ []) i.log ∙ append_assoc c.before.log i.steps (step ∷ [])))
 
         -- the view in the call, where it goes on
         module _ (q : P) (is : t.after c.shape p x ≡ Next q) where
@@ -183,7 +183,7 @@ module _ {P V : Type 0} (t : Table P) (drops : Bool) (r : Rule P V) where
           goes_on : (r.view_of next.view).made ≡ (r.view_of here_view).made → t.want c.shape q (r.view_of next.view).entry ≡ t.want c.shape q entry → IsAt t drops r c entry next q
           goes_on made wants_next =
               let u = goes_on_view in
-              let less = table.falls c.shape p q x i.in_range is in
+              let less = table.ranked.falls c.shape p q x i.in_range is in
               let bound = i.bound in
               record {
                 same = ap (λ (z : Sitting V). z.id) logs ∙ i.same;
@@ -205,7 +205,7 @@ module _ {P V : Type 0} (t : Table P) (drops : Bool) (r : Rule P V) where
         ends : (a : Answer) → t.after c.shape p x ≡ Done a → Took t drops r c entry next a
         ends a is =
             let bound = i.bound in
-            let some = table.some_left c.shape p i.in_range in
+            let some = table.ranked.some_left c.shape p i.in_range in
             (i.steps ++ step ∷ [], record { leads = leads_next (Done a) is; values = trail_next; log = log_next; few = omega (arith, length-append i.steps (step ∷ [])) }, walk_next)
 
         -- what the queue promises of the answer

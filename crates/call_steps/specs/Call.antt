@@ -9,7 +9,7 @@ use Rattle.rail.specs.declared.answer.Put.{Put}
 use Rattle.rail.specs.declared.answer.Put.TheVariants as put
 use Rattle.rail.specs.declared.answer.Take.{Take}
 use Rattle.rail.specs.declared.answer.Take.TheVariants as take
-use Rattle.step_log.specs.declared.step.Taken.{Taken}
+use Rattle.step_log.specs.declared.log.Step.{Step}
 use Rattle.machine.specs.declared.view.View.{View}
 use Rattle.machine.specs.declared.op.After.{After}
 use Rattle.machine.specs.declared.op.After.TheVariants.{Next, Done}
@@ -19,7 +19,7 @@ use Rattle.call_steps.specs.Rule.{Rule, logged, value_of}
 -- These steps lead from s to b: each is the step that its phase wants, and the value that it found
 -- leads on, by the machine's table. No step follows an answer.
 module _ {P : Type 0} (t : Table P) (g : Grid) (entry : List ℕ) where
-  abbrev pub Leads : After P → List Taken → After P → Type 0
+  abbrev pub Leads : After P → List Step → After P → Type 0
   Leads s [] b = s ≡ b
   Leads (Next p) (k ∷ ks) b = (k ≡ logged (t.want g p entry) (value_of k))
       × Leads (t.after g p (value_of k)) ks b
@@ -27,7 +27,7 @@ module _ {P : Type 0} (t : Table P) (g : Grid) (entry : List ℕ) where
 
 -- The walk of a seat's view through these steps, with what the rule told at each.
 module _ {P V : Type 0} (t : Table P) (r : Rule P V) (g : Grid) where
-  abbrev pub Walks : After P → V → List Taken → V → Type 0
+  abbrev pub Walks : After P → V → List Step → V → Type 0
   Walks s v [] w = v ≡ w
   Walks (Next p) v (k ∷ ks) w = r.Tells v p (value_of k)
       × Walks (t.after g p (value_of k)) (r.moves_to v p (value_of k)) ks w
@@ -36,8 +36,8 @@ module _ {P V : Type 0} (t : Table P) (r : Rule P V) (g : Grid) where
 -- A call that began at this phase took these steps, each once and no other, and they lead to
 -- exactly this answer.
 pub record TookSteps {P : Type 0} (t : Table P) (g : Grid) (entry : List ℕ) (first : P)
-    (steps : List Taken) (answer : Answer) (found : List ℕ)
-    (old_log new_log : List Taken) : Type 0 where
+    (steps : List Step) (answer : Answer) (found : List ℕ)
+    (old_log new_log : List Step) : Type 0 where
   pub leads : Leads t g entry (Next first) steps (Done answer)
   pub values : found ≡ map value_of steps
   pub log : new_log ≡ old_log ++ steps

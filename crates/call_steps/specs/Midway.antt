@@ -6,7 +6,7 @@ use Rattle.rail.specs.declared.answer.Answer.{Answer}
 use Rattle.rail.specs.Rail.{Puts, Takes}
 use Rattle.rail.specs.declared.answer.Put.{Put}
 use Rattle.rail.specs.declared.answer.Take.{Take}
-use Rattle.step_log.specs.declared.step.Taken.{Taken}
+use Rattle.step_log.specs.declared.log.Step.{Step}
 use Rattle.step_log.specs.Log.{Sitting}
 use Rattle.machine.specs.declared.event.Start.{Start}
 use Rattle.machine.specs.declared.event.Start.TheVariants as start
@@ -46,7 +46,7 @@ module _ {P V : Type 0} (t : Table P) (drops : Bool) (r : Rule P V) where
     pub in_range : t.IsInRange c.shape p
     pub here : (view_in c.start now).phase ≡ Some p
     pub wants : t.want c.shape p (view_in c.start now).entry ≡ t.want c.shape p entry
-    pub steps : List Taken
+    pub steps : List Step
     pub leads : Leads t c.shape entry (Next c.first) steps (Next p)
     pub walk : Walks t r c.shape (Next c.first) (r.begins c.before.view c.start) steps
         (in_call r now.view c.start)
@@ -76,7 +76,7 @@ module _ {P V : Type 0} (t : Table P) (drops : Bool) (r : Rule P V) where
 
   -- the steps from the first to the answer, and what the rule told at each
   abbrev pub Took : Call P V → List ℕ → Sitting V → Answer → Type 0
-  Took c entry now a = (steps : List Taken)
+  Took c entry now a = (steps : List Step)
       × TookSteps t c.shape entry c.first steps a (r.view_of now.view).trail c.before.log now.log
       × Walks t r c.shape (Next c.first) (r.begins c.before.view c.start) steps now.view
 

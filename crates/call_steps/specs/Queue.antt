@@ -8,7 +8,7 @@ use Rattle.rail.specs.declared.answer.Take.{Take}
 use Rattle.rail.specs.declared.answer.Take.TheVariants as take
 use Rattle.rail.specs.Told as told
 use Rattle.step_log.specs.Log.{TableId}
-use Rattle.step_log.specs.declared.step.Taken.{Taken}
+use Rattle.step_log.specs.declared.log.Step.{Step}
 use Rattle.machine.specs.declared.view.View.{View}
 use Rattle.machine.specs.Steps.{resting}
 
@@ -25,7 +25,7 @@ pub record Seated (P : Type 0) : Type 0 where
   pub of : Queue
   pub number : ℕ
   pub view : View P
-  pub log : List Taken
+  pub log : List Step
 
 module _ {P : Type 0} where
   abbrev pub IsSeatOf : Queue → Seated P → Type 0

@@ -3,7 +3,7 @@ use Rattle.std.specs.Prelude.{◌≡◌, ℕ, ◌+◌, ◌<◌, ◌≤◌, List,
 use Rattle.cursor_word.specs.Shape.{Grid}
 use Rattle.cursor_word.specs.Cursor.{most_puts}
 use Rattle.rail.specs.declared.answer.Answer.{Answer}
-use Rattle.step_log.specs.declared.step.Taken.{Taken}
+use Rattle.step_log.specs.declared.log.Step.{Step}
 use Rattle.step_log.specs.Log.{Keeps, added, loaded, raised, stored}
 use Rattle.machine.specs.declared.op.Op.{Op}
 use Rattle.machine.specs.declared.op.Op.TheVariants.{Load, Store, AddOne, Max}
@@ -18,7 +18,7 @@ use Rattle.machine.specs.Steps.{begun, seen}
 use Rattle.call_laws.specs.Answers.{HasTrail, Promises}
 
 -- what the log of a seat gains by this step, where the word was n
-abbrev pub logged : Op → ℕ → Taken
+abbrev pub logged : Op → ℕ → Step
 logged (Load i) n = loaded i n
 logged (Store i x) n = stored i x
 logged (AddOne i) n = added i n
@@ -29,7 +29,7 @@ found_or None x = x
 found_or (Some n) x = n
 
 -- the value that a step found, and of a store the value that it wrote
-abbrev pub value_of : Taken → ℕ
+abbrev pub value_of : Step → ℕ
 value_of step = found_or step.found step.brought
 
 -- the phase that follows is in range
@@ -84,7 +84,7 @@ module _ {P V : Type 0} (r : Rule P V) where
   Moves v (Some p) n w = (w ≡ r.moves_to v p n) × r.Tells v p n
 
   -- a seat did the next step of this call, and began it where it was at rest
-  abbrev pub DoesStep : Start → V → Taken → V → Type 0
+  abbrev pub DoesStep : Start → V → Step → V → Type 0
   DoesStep call v step w =
       Moves (in_call v call) (r.view_of (in_call v call)).phase (value_of step) w
 

@@ -42,7 +42,7 @@ pub fn run_put<P: CallPhase, U: MachineRule<P>, E: Call>(
         seat,
         entry,
         state,
-        |phase: &P| phase.stage() == 0,
+        |phase: &P| phase.usual_step() == 0,
     );
     let state = put_while::<P, U, E, _>(
         words,
@@ -50,7 +50,7 @@ pub fn run_put<P: CallPhase, U: MachineRule<P>, E: Call>(
         seat,
         entry,
         state,
-        |phase: &P| phase.stage() == 1,
+        |phase: &P| phase.usual_step() == 1,
     );
     let state = put_while::<P, U, E, _>(
         words,
@@ -58,7 +58,7 @@ pub fn run_put<P: CallPhase, U: MachineRule<P>, E: Call>(
         seat,
         entry,
         state,
-        |phase: &P| phase.stage() == 2,
+        |phase: &P| phase.usual_step() == 2,
     );
     let state = put_while::<P, U, E, _>(
         words,
@@ -66,7 +66,7 @@ pub fn run_put<P: CallPhase, U: MachineRule<P>, E: Call>(
         seat,
         entry,
         state,
-        |phase: &P| phase.stage() == 3,
+        |phase: &P| phase.usual_step() == 3,
     );
     let mut state = state;
     loop {
@@ -168,7 +168,7 @@ pub fn run_take<P: CallPhase, U: MachineRule<P>, E: Call>(
         seat,
         out,
         state,
-        |phase: &P| phase.stage() == 0,
+        |phase: &P| phase.usual_step() == 0,
     );
     let state = take_while::<P, U, E, _>(
         words,
@@ -176,7 +176,7 @@ pub fn run_take<P: CallPhase, U: MachineRule<P>, E: Call>(
         seat,
         out,
         state,
-        |phase: &P| phase.stage() == 1,
+        |phase: &P| phase.usual_step() == 1,
     );
     let state = take_while::<P, U, E, _>(
         words,
@@ -184,7 +184,7 @@ pub fn run_take<P: CallPhase, U: MachineRule<P>, E: Call>(
         seat,
         out,
         state,
-        |phase: &P| phase.stage() == 2,
+        |phase: &P| phase.usual_step() == 2,
     );
     let state = take_while::<P, U, E, _>(
         words,
@@ -192,7 +192,7 @@ pub fn run_take<P: CallPhase, U: MachineRule<P>, E: Call>(
         seat,
         out,
         state,
-        |phase: &P| phase.stage() == 3,
+        |phase: &P| phase.usual_step() == 3,
     );
     let state = take_while::<P, U, E, _>(
         words,
@@ -200,7 +200,7 @@ pub fn run_take<P: CallPhase, U: MachineRule<P>, E: Call>(
         seat,
         out,
         state,
-        |phase: &P| phase.stage() == 4,
+        |phase: &P| phase.usual_step() == 4,
     );
     let state = take_while::<P, U, E, _>(
         words,
@@ -208,7 +208,7 @@ pub fn run_take<P: CallPhase, U: MachineRule<P>, E: Call>(
         seat,
         out,
         state,
-        |phase: &P| phase.stage() == 5,
+        |phase: &P| phase.usual_step() == 5,
     );
     let mut state = state;
     loop {

@@ -11,7 +11,7 @@ mod start;
 
 pub use calls::{run_put, run_take};
 pub use counts::{puts_after, takes_after};
-pub use left::read_left;
+pub use left::{read_left, read_unreserved};
 pub use operation::operate;
 pub use rule::{Call, MachineRule, NextStep};
 pub use start::start_words;

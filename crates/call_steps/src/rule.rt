@@ -5,7 +5,7 @@ ghost use Rattle.call_steps.specs.Rule.{DoesStep, Rule, RunsCalls};
 
 use call_laws::CallPhase;
 use std::marker::{Brand, PhantomData};
-use step_log::{StepRule, Told};
+use step_log::{StepFact, StepRule};
 
 /// A rule whose views are the machine's.
 pub trait MachineRule<P: CallPhase>: StepRule {
@@ -30,6 +30,6 @@ pub struct NextStep<P, E> {
     call: PhantomData<(P, E)>,
 }
 
-impl<P: CallPhase, U: MachineRule<P>, E: Call> Told<U> for NextStep<P, E> {
+impl<P: CallPhase, U: MachineRule<P>, E: Call> StepFact<U> for NextStep<P, E> {
     ghost then = { DoesStep U.rule E.start };
 }

@@ -33,11 +33,11 @@ OfCall (start.Put entry) b = OfPut b
 OfCall start.Take b = OfTake b
 OfCall start.Go b = ⊥
 
-either : (P : After → Type 0) (c : Bool) (x y : After) → P x → P y → P (if c then x else y)
+pub either : (P : After → Type 0) (c : Bool) (x y : After) → P x → P y → P (if c then x else y)
 either P true x y p q = p
 either P false x y p q = q
 
-put_stays : (g : Grid) (p : DropPhase) (old : ℕ) → OfPut (Next p) → OfPut (after g p old)
+pub put_stays : (g : Grid) (p : DropPhase) (old : ℕ) → OfPut (Next p) → OfPut (after g p old)
 put_stays g (HeadP turn first) old h = tt
 put_stays g (SeeA turn first head) old h = either OfPut (nat_lt (old % offset_span) g.size) _ _ tt (either OfPut (turn == 1) _ _ tt tt)
 put_stays g (AddA turn first head) old h = either OfPut (nat_lt (old % offset_span) g.size) _ _ tt (either OfPut (turn == 1) _ _ tt tt)
@@ -49,7 +49,7 @@ put_stays g (OpenA full) old h = tt
 put_stays g (RaiseP full) old h = tt
 put_stays g (Take q) old h = absurd h
 
-take_goes_on : (g : Grid) (q : DropTake) (old : ℕ) → OfTake (after_take g q old)
+pub take_goes_on : (g : Grid) (q : DropTake) (old : ℕ) → OfTake (after_take g q old)
 take_goes_on g (HeadC turn first) old = tt
 take_goes_on g (SeeRes turn first head) old = either OfTake ((old / offset_span) == head) _ _ (either OfTake (nat_lt (old % offset_span) g.size) _ _ tt (either OfTake (turn == 1) _ _ tt tt)) tt
 take_goes_on g (SeeCom turn r) old =

@@ -27,3 +27,8 @@ pub mod AloneCalls
 pub mod CallKinds
 pub mod LoneLaw
 pub mod Permutes
+pub mod CallTable
+pub mod Trails
+pub mod Promised
+pub mod SeatOrder
+pub mod Leaves

@@ -92,7 +92,7 @@ opens_no_take full q e = cc
 rests_no_take : (q : DropTake) → (let n : Option DropPhase = None in n ≡ Some (Take q)) → ⊥
 rests_no_take q e = cc
 
-takes_le : (g : Grid) (p : ℕ) (v : View) → times p (places v.taken) ≤ fetches g p v
+pub takes_le : (g : Grid) (p : ℕ) (v : View) → times p (places v.taken) ≤ fetches g p v
 takes_le g p v = let s = sum_by-append (λ (q : ℕ). one_at q p) (places v.taken) (reading g v.phase) in omega arith
 
 pub turn_of : (g : Grid) (turn : ℕ) (first : Cursor) (b : ℕ) → TakeTurn g turn first b → IsTurn turn

@@ -28,7 +28,8 @@ use Rattle.drop_core.specs.Counts.{fetches, reading}
 use Rattle.drop_core.specs.Gathered.{IsSettled, left_in}
 use Rattle.drop_core.specs.Sound.{IsSound, IsSoundAt}
 use Rattle.put_side.specs.Entries.{IsPresent}
-use Rattle.put_side.specs.Gathered.{all_made, all_taken, entry_at}
+use Rattle.machine.specs.Entries.{entry_at}
+use Rattle.put_side.specs.Gathered.{all_made, all_taken}
 use Rattle.put_side.proofs.Orders.{in_order, order_length, stands_at, stands_from}
 use Rattle.drop_core.proofs.Lows.{low_at}
 use Rattle.put_side.proofs.Gathers.{StandsIn, distinct, has_in, stands_in, times_all}
@@ -72,7 +73,7 @@ rows_of : (q w : ℕ) → 1 ≤ w → q < (q / w + 1) * w
 rows_of q w h = let d = div-add-mod' q w in let m = mod_below q w h in omega arith
 
 -- a place from the oldest block on that isn't reused, where the last of n places lies in block K
-low_is : (g : Grid) (n K : ℕ) → IsWithinLimits g → g.blocks ≤ K → n ≤ place g K g.size → ((K ≡ g.blocks) ⊎ (place g K 0 < n)) → (q : ℕ) → low g n ≤ q → q < n → K < g.blocks + q / g.size + g.blocks
+pub low_is : (g : Grid) (n K : ℕ) → IsWithinLimits g → g.blocks ≤ K → n ≤ place g K g.size → ((K ≡ g.blocks) ⊎ (place g K 0 < n)) → (q : ℕ) → low g n ≤ q → q < n → K < g.blocks + q / g.size + g.blocks
 low_is g n K limits from most some q le less =
     let is = low_at g n K limits from most some in
     ⊎_elim
@@ -82,7 +83,7 @@ low_is g n K limits from most some q le less =
     (cases_lt (q / g.size) (K + 1 - g.blocks - g.blocks))
 
 module _ (g : Grid) (f : Front) (ws : List ℕ) (vs : List View) (limits : IsWithinLimits g) (s : IsSoundAt g f ws vs) (rest : AllRest vs) where
-  none_puts : NonePuts (stage_of stage) vs
+  pub none_puts : NonePuts (stage_of stage) vs
   none_puts j u at = ap (stage_in stage) (rest j u at)
 
   -- an item from the oldest block on that isn't reused stands in the words
@@ -98,7 +99,7 @@ module _ (g : Grid) (f : Front) (ws : List ℕ) (vs : List View) (limits : IsWit
       made_at (stage_of stage) g ws m.view m.number x (s.puts.entries m.seat m.view m.at) m.there present
 
   -- at rest nothing is being read
-  takes_all : (p : ℕ) → sum_by (fetches g p) vs ≡ times p (places (all_taken vs))
+  pub takes_all : (p : ℕ) → sum_by (fetches g p) vs ≡ times p (places (all_taken vs))
   takes_all p = sum_alike (fetches g p) (λ (v : View). times p (places v.taken)) vs (λ j u at. ap (times p) (ap (λ (ph : Option DropPhase). places u.taken ++ reading g ph) (rest j u at) ∙ append-nil (places u.taken))) ∙ sym (times_all (λ (v : View). v.taken) p vs)
 
   taken_stands : (x : Placed) → Contains (all_taken vs) x → Contains (all_made vs) x

@@ -22,106 +22,110 @@ use Rattle.drop_core.specs.Sound.{IsSound}
 use Rattle.drop_core.specs.Rest.{place_answered}
 
 -- place p was reserved, in a block up to the consumer head
-pub record IsBehind (g : Grid) (c : Cursors) (p : ℕ) : Type 0 where
+pub record IsBehind (shape : Grid) (c : Cursors) (p : ℕ) : Type 0 where
   pub block : ℕ
   pub offset : ℕ
-  pub from : g.blocks ≤ block
-  pub within : offset < g.size
-  pub is_place : p ≡ place g block offset
+  pub from : shape.blocks ≤ block
+  pub within : offset < shape.size
+  pub is_place : p ≡ place shape block offset
   pub gone : IsGone c block offset
   pub to : block ≤ c.consumer
 
 -- each taken place is below `next`, and the place before `next`, if there is one, was reserved
-pub record IsNext (g : Grid) (c : Cursors) (vs : List View) (next : ℕ) : Type 0 where
-  pub taken : (p : ℕ) → next ≤ p → sum_by (takes p) vs ≡ 0
-  pub behind : (next ≡ 0) ⊎ ((p : ℕ) × (next ≡ p + 1) × IsBehind g c p)
+pub record IsNext (shape : Grid) (c : Cursors) (views : List View) (next : ℕ) : Type 0 where
+  pub taken : (p : ℕ) → next ≤ p → sum_by (takes p) views ≡ 0
+  pub behind : (next ≡ 0) ⊎ ((p : ℕ) × (next ≡ p + 1) × IsBehind shape c p)
 
 -- one more than the greatest answered place, with an answer more
 abbrev pub next_after : ℕ → Answer → ℕ
 next_after next a = max next (beyond (place_answered a))
 
 abbrev pub OthersRest : List View → ℕ → Type 0
-OthersRest vs id = (j : ℕ) (u : View) → j ≢ id → slice_get vs j ≡ Some u → u.phase ≡ None
+OthersRest views id = (j : ℕ) (u : View) → j ≢ id → slice_get views j ≡ Some u → u.phase ≡ None
 
 -- what a seat alone knows of the cursors in its second turn: the head's block was just opened
 abbrev pub PutOpened : Grid → List ℕ → ℕ → Type 0
-PutOpened g ws turn =
-    (turn ≡ 1) ⊎ (allocated_word g ws (slice_index ws 0) ≡ slice_index ws 0 * offset_span)
+PutOpened shape words turn =
+    (turn ≡ 1) ⊎ (allocated_word shape words (slice_index words 0)
+    ≡ slice_index words 0 * offset_span)
 
 -- a block is not reused, while the producer head is at the last opened one
 abbrev pub IsLive : Grid → Cursors → ℕ → Type 0
-IsLive g c block = c.puts.producer < block + g.blocks
+IsLive shape c block = c.puts.producer < block + shape.blocks
 
 -- and so was the consumer head's, which is not reused
 abbrev pub TakeOpened : Grid → Cursors → ℕ → Type 0
-TakeOpened g c turn =
+TakeOpened shape c turn =
     (turn ≡ 1)
-    ⊎ ((c.reserved c.consumer ≡ c.consumer * offset_span) × IsLive g c c.consumer)
+    ⊎ ((c.reserved c.consumer ≡ c.consumer * offset_span) × IsLive shape c c.consumer)
 
 -- what a seat alone knows of the cursors in a take
 abbrev pub TakeAlone : Grid → ℕ → ℕ → Cursors → DropTake → Type 0
-TakeAlone g accepted next c (HeadC turn first) = TakeOpened g c turn
-TakeAlone g accepted next c (SeeRes turn first head) = (head ≡ c.consumer) × TakeOpened g c turn
-TakeAlone g accepted next c (SeeCom turn r) =
+TakeAlone shape accepted next c (HeadC turn first) = TakeOpened shape c turn
+TakeAlone shape accepted next c (SeeRes turn first head) =
+    (head ≡ c.consumer) × TakeOpened shape c turn
+TakeAlone shape accepted next c (SeeCom turn r) =
     (r.block ≡ c.consumer) × (packed r ≡ c.reserved c.consumer)
-    × ((turn ≡ 1) ⊎ IsLive g c c.consumer)
-TakeAlone g accepted next c (SeeAll r m) =
+    × ((turn ≡ 1) ⊎ IsLive shape c c.consumer)
+TakeAlone shape accepted next c (SeeAll r m) =
     (r.block ≡ c.consumer) × (packed r ≡ c.reserved c.consumer)
     × (packed m ≡ c.puts.committed c.consumer)
-TakeAlone g accepted next c (Reserve r) =
-    (r.block ≡ c.consumer) × (packed r ≡ c.reserved c.consumer) × IsLive g c c.consumer
-TakeAlone g accepted next c (Read at n) =
-    (place_at g at ≡ drop_next g accepted next) × IsLive g c at.block
-TakeAlone g accepted next c (Verify at) =
-    (place_at g at ≡ drop_next g accepted next) × IsLive g c at.block
-TakeAlone g accepted next c (NextCom sp) = sp.block ≡ c.consumer
-TakeAlone g accepted next c (Jump from) = from.block ≡ c.consumer
-TakeAlone g accepted next c (OpenR from to) =
-    (from.block ≡ c.consumer) × IsLive g c to
-TakeAlone g accepted next c (RaiseC from to) =
-    (from.block ≡ c.consumer) × IsLive g c to × (c.reserved to ≡ to * offset_span)
+TakeAlone shape accepted next c (Reserve r) =
+    (r.block ≡ c.consumer) × (packed r ≡ c.reserved c.consumer) × IsLive shape c c.consumer
+TakeAlone shape accepted next c (Read at n) =
+    (place_at shape at ≡ drop_next shape accepted next) × IsLive shape c at.block
+TakeAlone shape accepted next c (Verify at) =
+    (place_at shape at ≡ drop_next shape accepted next) × IsLive shape c at.block
+TakeAlone shape accepted next c (NextCom sp) = sp.block ≡ c.consumer
+TakeAlone shape accepted next c (Jump from) = from.block ≡ c.consumer
+TakeAlone shape accepted next c (OpenR from to) =
+    (from.block ≡ c.consumer) × IsLive shape c to
+TakeAlone shape accepted next c (RaiseC from to) =
+    (from.block ≡ c.consumer) × IsLive shape c to × (c.reserved to ≡ to * offset_span)
 
 -- and in a put
 abbrev pub KnowsAlone : Grid → ℕ → ℕ → List ℕ → DropPhase → Type 0
-KnowsAlone g accepted next ws (HeadP turn first) = PutOpened g ws turn
-KnowsAlone g accepted next ws (SeeA turn first head) =
-    (head ≡ slice_index ws 0) × PutOpened g ws turn
-KnowsAlone g accepted next ws (AddA turn first head) =
-    (head ≡ slice_index ws 0) × (allocated_word g ws head % offset_span < g.size)
-KnowsAlone g accepted next ws (Write at n) = place_at g at ≡ accepted
-KnowsAlone g accepted next ws (Commit at) = place_at g at ≡ accepted
-KnowsAlone g accepted next ws (SeeM full) = full.block ≡ slice_index ws 0
-KnowsAlone g accepted next ws (OpenM full) = full.block ≡ slice_index ws 0
-KnowsAlone g accepted next ws (OpenA full) =
-    (full.block ≡ slice_index ws 0)
-    × (allocated_word g ws (full.block + 1) / offset_span < full.block + 1)
-KnowsAlone g accepted next ws (RaiseP full) =
-    (full.block ≡ slice_index ws 0)
-    × (allocated_word g ws (full.block + 1) ≡ (full.block + 1) * offset_span)
-KnowsAlone g accepted next ws (Take q) = TakeAlone g accepted next (cursors g ws) q
+KnowsAlone shape accepted next words (HeadP turn first) = PutOpened shape words turn
+KnowsAlone shape accepted next words (SeeA turn first head) =
+    (head ≡ slice_index words 0) × PutOpened shape words turn
+KnowsAlone shape accepted next words (AddA turn first head) =
+    (head ≡ slice_index words 0) × (allocated_word shape words head % offset_span < shape.size)
+KnowsAlone shape accepted next words (Write at n) = place_at shape at ≡ accepted
+KnowsAlone shape accepted next words (Commit at) = place_at shape at ≡ accepted
+KnowsAlone shape accepted next words (SeeM full) = full.block ≡ slice_index words 0
+KnowsAlone shape accepted next words (OpenM full) = full.block ≡ slice_index words 0
+KnowsAlone shape accepted next words (OpenA full) =
+    (full.block ≡ slice_index words 0)
+    × (allocated_word shape words (full.block + 1) / offset_span < full.block + 1)
+KnowsAlone shape accepted next words (RaiseP full) =
+    (full.block ≡ slice_index words 0)
+    × (allocated_word shape words (full.block + 1) ≡ (full.block + 1) * offset_span)
+KnowsAlone shape accepted next words (Take q) =
+    TakeAlone shape accepted next (cursors shape words) q
 
 -- seat id is alone in phase p of a call that began where so many entries were accepted, and the
 -- takes had been answered places below `next`
-pub record IsAlone (g : Grid) (accepted next : ℕ) (ws : List ℕ) (vs : List View) (id : ℕ)
+pub record IsAlone (shape : Grid) (accepted next : ℕ) (words : List ℕ) (views : List View) (id : ℕ)
     (p : DropPhase) : Type 0 where
-  pub sound : IsSound g ws vs
-  pub others : OthersRest vs id
-  pub made : made_total vs ≡ accepted
-  pub answered : IsNext g (cursors g ws) vs next
-  pub knows : KnowsAlone g accepted next ws p
+  pub sound : IsSound shape words views
+  pub others : OthersRest views id
+  pub made : made_total views ≡ accepted
+  pub answered : IsNext shape (cursors shape words) views next
+  pub knows : KnowsAlone shape accepted next words p
 
 -- all seats are at rest, where so many entries are accepted, and the takes were answered places
 -- below `next`
-pub record IsStill (g : Grid) (accepted next : ℕ) (ws : List ℕ) (vs : List View) : Type 0 where
-  pub sound : IsSound g ws vs
-  pub rest : AllRest vs
-  pub made : made_total vs ≡ accepted
-  pub answered : IsNext g (cursors g ws) vs next
+pub record IsStill (shape : Grid) (accepted next : ℕ) (words : List ℕ)
+    (views : List View) : Type 0 where
+  pub sound : IsSound shape words views
+  pub rest : AllRest views
+  pub made : made_total views ≡ accepted
+  pub answered : IsNext shape (cursors shape words) views next
 
 -- what one thread is answered
 abbrev pub AnswersAlone : Grid → ℕ → ℕ → Answer → Type 0
-AnswersAlone g accepted next (answer.Put p) = p ≡ drop_put accepted
-AnswersAlone g accepted next (answer.Take q) = q ≡ drop_take g accepted next
+AnswersAlone shape accepted next (answer.Put p) = p ≡ drop_put accepted
+AnswersAlone shape accepted next (answer.Take q) = q ≡ drop_take shape accepted next
 
 -- how many entries an answer accepts
 abbrev pub accepts : Answer → ℕ
@@ -131,6 +135,8 @@ accepts a = 0
 -- after a step of a seat alone: it goes on alone, or all seats are at rest and the answer is what
 -- one thread is answered
 abbrev pub GoesOnAlone : Grid → ℕ → ℕ → List ℕ → List View → ℕ → After → Type 0
-GoesOnAlone g accepted next ws vs id (Next p) = IsAlone g accepted next ws vs id p
-GoesOnAlone g accepted next ws vs id (Done a) =
-    AnswersAlone g accepted next a × IsStill g (accepted + accepts a) (next_after next a) ws vs
+GoesOnAlone shape accepted next words views id (Next p) =
+    IsAlone shape accepted next words views id p
+GoesOnAlone shape accepted next words views id (Done a) =
+    AnswersAlone shape accepted next a
+        × IsStill shape (accepted + accepts a) (next_after next a) words views

@@ -54,36 +54,37 @@ FindsCommitted reserved p = ⊥
 -- the committed cursor is the same, and this is its place; or the block is spent and the next one
 -- is not opened, and this is that one's first place.
 abbrev pub EmptyBy : Grid → ℕ → Cursor → Cursor → DropPhase → Type 0
-EmptyBy g place reserved found (Take (SeeCom turn r)) =
-    (r ≡ reserved) × (found ≡ reserved) × (place ≡ place_at g reserved)
-EmptyBy g place reserved found (Take (NextCom sp)) =
-    (sp ≡ reserved) × (found.block < reserved.block + 1) × (place ≡ first_of g (reserved.block + 1))
-EmptyBy g place reserved found p = ⊥
+EmptyBy shape place reserved found (Take (SeeCom turn r)) =
+    (r ≡ reserved) × (found ≡ reserved) × (place ≡ place_at shape reserved)
+EmptyBy shape place reserved found (Take (NextCom sp)) =
+    (sp ≡ reserved) × (found.block < reserved.block + 1)
+    × (place ≡ first_of shape (reserved.block + 1))
+EmptyBy shape place reserved found p = ⊥
 
 -- a call that answers Empty found a reserved cursor, and in its last step a committed one, and the
 -- queue was empty then
-pub record EmptyShown (g : Grid) (events : List Event) (steps : List CallStep)
+pub record EmptyShown (shape : Grid) (events : List Event) (steps : List CallStep)
     (place : ℕ) : Type 0 where
   pub reserved : Cursor
   pub committed : Cursor
   pub first : FoundBy FindsAnyReserved reserved steps
-  pub last : FoundBy (EmptyBy g place reserved committed) committed steps
+  pub last : FoundBy (EmptyBy shape place reserved committed) committed steps
   pub in_order : first.number < last.number
   pub is_last : suc last.number ≡ length steps
-  pub was_empty : EmptyAt g (moment table g events last.step.position) place
+  pub was_empty : EmptyAt shape (moment table shape events last.step.position) place
 
 -- A call that answers Overrun reserved that place, for it found the reserved cursor at it; and in
 -- its last step it found the allocated cursor of the place's physical block, and the block was
 -- reused then.
-pub record OverrunShown (g : Grid) (events : List Event) (steps : List CallStep) (place : ℕ)
+pub record OverrunShown (shape : Grid) (events : List Event) (steps : List CallStep) (place : ℕ)
     (now : Cursor) : Type 0 where
   pub at : Cursor
-  pub is_place : place ≡ place_at g at
+  pub is_place : place ≡ place_at shape at
   pub reserves : FoundBy (λ p. p ≡ Take (Reserve at)) at steps
   pub last : FoundBy (λ p. p ≡ Take (Verify at)) now steps
   pub in_order : reserves.number < last.number
   pub is_last : suc last.number ≡ length steps
-  pub was_overrun : OverrunAt g (moment table g events last.step.position) at now
+  pub was_overrun : OverrunAt shape (moment table shape events last.step.position) at now
 
 -- the two cursors of a Busy answer, in the order in which they were found
 abbrev pub first_found : Why → Cursor
@@ -98,10 +99,10 @@ second_found (why.Moved earlier later) = later
 -- second: the filled allocated cursor and then the committed one in the place of the next block, or
 -- the allocated cursor in each turn.
 abbrev pub PutPair : Grid → Why → DropPhase → DropPhase → Type 0
-PutPair g (why.Unfinished block before after) p (SeeM full) =
-    FindsAllocated 1 p × (full ≡ before) × (block ≡ full.block + 1 - g.blocks)
-PutPair g (why.Unfinished block before after) p q = ⊥
-PutPair g (why.Moved earlier later) p q = FindsAllocated 1 p × FindsAllocated 2 q
+PutPair shape (why.Unfinished block before after) p (SeeM full) =
+    FindsAllocated 1 p × (full ≡ before) × (block ≡ full.block + 1 - shape.blocks)
+PutPair shape (why.Unfinished block before after) p q = ⊥
+PutPair shape (why.Moved earlier later) p q = FindsAllocated 1 p × FindsAllocated 2 q
 
 -- And those of a take's: the committed cursor and then the allocated one; the consumer head and
 -- then the reserved cursor of its physical block; the reserved cursor in each turn; the reserved

@@ -6,7 +6,8 @@ use Rattle.rail.specs.declared.entry.Placed.{Placed}
 use Rattle.rail.specs.Items.{placed}
 use Rattle.rail.specs.Outcome.{DropOutcome, IsAccepted, KeepsNewest, is_left}
 use Rattle.machine.specs.Invariant.{made_total}
-use Rattle.put_side.specs.Gathered.{all_made, all_taken, entry_at}
+use Rattle.machine.specs.Entries.{entry_at}
+use Rattle.put_side.specs.Gathered.{all_made, all_taken}
 use Rattle.drop_core.specs.Types.{MachineState}
 
 -- of the first places, so many, those that lie in no reused block and weren't taken, each with the

@@ -13,20 +13,21 @@ use Rattle.drop_core.specs.Counts.{fetches}
 
 -- block k was reused: a later block was opened in its physical block
 abbrev pub IsReused : Grid → List ℕ → ℕ → Type 0
-IsReused g ws k = k + g.blocks ≤ committed_word g ws k / offset_span
+IsReused shape words k = k + shape.blocks ≤ committed_word shape words k / offset_span
 
 -- No entry stands at place p, the next for a take: p is not made, each place below p is taken or
 -- being read or lies in a reused block, and no place from p on was ever reserved.
-pub record EmptyAt (g : Grid) (w : MachineState DropPhase) (p : ℕ) : Type 0 where
+pub record EmptyAt (shape : Grid) (w : MachineState DropPhase) (p : ℕ) : Type 0 where
   pub not_made : sum_by (makes p) w.views ≡ 0
   pub reserved : (q : ℕ) → q < p
-      → (1 ≤ sum_by (fetches g q) w.views) ⊎ IsReused g w.words (g.blocks + q / g.size)
-  pub not_reserved : (k o : ℕ) → g.blocks ≤ k → o < g.size → p ≤ place g k o
-      → IsGone (cursors g w.words) k o → ⊥
+      → (1 ≤ sum_by (fetches shape q) w.views)
+      ⊎ IsReused shape w.words (shape.blocks + q / shape.size)
+  pub not_reserved : (k o : ℕ) → shape.blocks ≤ k → o < shape.size → p ≤ place shape k o
+      → IsGone (cursors shape w.words) k o → ⊥
 
 -- A take has reserved the place of this cursor, and the allocated cursor of its physical block is
 -- that one, of a later block.
-pub record OverrunAt (g : Grid) (w : MachineState DropPhase) (at now : Cursor) : Type 0 where
-  pub reserved : 1 ≤ sum_by (fetches g (place_at g at)) w.views
-  pub found : unpacked (allocated_word g w.words at.block) ≡ now
+pub record OverrunAt (shape : Grid) (w : MachineState DropPhase) (at now : Cursor) : Type 0 where
+  pub reserved : 1 ≤ sum_by (fetches shape (place_at shape at)) w.views
+  pub found : unpacked (allocated_word shape w.words at.block) ≡ now
   pub later : at.block < now.block

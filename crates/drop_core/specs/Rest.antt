@@ -23,18 +23,20 @@ places_answered calls = flat_map (λ (call : Ended). place_answered call.answer)
 
 -- one more than the greatest place that the takes which ended before moment n answered so
 abbrev pub next_place : Grid → List Event → ℕ → ℕ
-next_place g events n = beyond (places_answered (ended table g events n))
+next_place shape events n = beyond (places_answered (ended table shape events n))
 
 -- A call that is begun so is answered as one thread is, where so many entries are accepted, and the
 -- takes so far were answered places below `next`.
 abbrev pub AnswersAsOne : Grid → ℕ → ℕ → Start → Option Answer → Type 0
-AnswersAsOne g accepted next (start.Put entry) (Some (answer.Put p)) = p ≡ drop_put accepted
-AnswersAsOne g accepted next start.Take (Some (answer.Take q)) = q ≡ drop_take g accepted next
-AnswersAsOne g accepted next begun a = ⊥
+AnswersAsOne shape accepted next (start.Put entry) (Some (answer.Put p)) = p ≡ drop_put accepted
+AnswersAsOne shape accepted next start.Take (Some (answer.Take q)) =
+    q ≡ drop_take shape accepted next
+AnswersAsOne shape accepted next begun a = ⊥
 
 -- the call of a seat from moment n to moment m is answered as one thread is, by what was made and
 -- answered before moment n
 abbrev pub AnsweredAsOne : Grid → List Event → ℕ → ℕ → ℕ → Start → Type 0
-AnsweredAsOne g events seat n m begun =
-    AnswersAsOne g (made_total (moment table g events n).views) (next_place g events n) begun
-    (answer_of table g events m seat)
+AnsweredAsOne shape events seat n m begun =
+    AnswersAsOne shape (made_total (moment table shape events n).views)
+        (next_place shape events n) begun
+    (answer_of table shape events m seat)

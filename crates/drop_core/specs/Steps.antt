@@ -24,7 +24,7 @@ abbrev pub table : Table DropPhase
 table =
     record {
       first_put = first_put;
-      first_take = λ g taken. first_take;
+      first_take = λ shape taken. first_take;
       want = want;
       after = after;
       is_put = is_put;
@@ -32,5 +32,5 @@ table =
       rank = rank;
       IsInRange = IsInRange;
       FindsFit = FindsFit;
-      MayBegin = λ g seat begins. Unit {0};
+      MayBegin = λ shape seat begins. Unit {0};
     }

@@ -43,4 +43,6 @@ impl machine::Phase for DropPhase {
     }
 
     fn keeps() {}
+
+    fn ends() {}
 }

@@ -76,7 +76,7 @@ module _ {P : Type 0} (t : Table P) (Holds : Fact P) (law : IsInvariant t Holds)
   pub ready_at_turn : (ws : List ℕ) (vs : List (View P)) (id : ℕ) (v : View P) (s : Start) → IsKept Holds (state_of g ws vs) → slice_get vs id ≡ Some v → IsWide g s → t.MayBegin g id s → (p : P) → (begun t g v v.phase s).phase ≡ Some p → CanStep t g ws (begun t g v v.phase s) p
   ready_at_turn ws vs id v s k at wide may p is = can_turn t Holds law g k.limits ws vs id v s v.phase p k.holds (total_few ws vs k) at refl wide may is
 
-  kept_turn : (ws : List ℕ) (vs : List (View P)) (id : ℕ) (v : View P) (s : Start) (c : Scene P) → IsKept Holds (state_of g ws vs) → slice_get vs id ≡ Some v → IsWide g s → t.MayBegin g id s → made_count v < most_puts g → turned t g ws v s ≡ c
+  pub kept_turn : (ws : List ℕ) (vs : List (View P)) (id : ℕ) (v : View P) (s : Start) (c : Scene P) → IsKept Holds (state_of g ws vs) → slice_get vs id ≡ Some v → IsWide g s → t.MayBegin g id s → made_count v < most_puts g → turned t g ws v s ≡ c
       → IsKept Holds (state_of g c.words (slice_set vs id c.view))
   kept_turn ws vs id v s c k at wide may room is = subst (λ (c : Scene P). IsKept Holds (state_of g c.words (slice_set vs id c.view))) is
       record {

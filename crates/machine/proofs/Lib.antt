@@ -8,3 +8,5 @@ pub mod EndedCalls
 pub mod Bounded
 pub mod Calls
 pub mod Lone
+pub mod InTime
+pub mod Finished

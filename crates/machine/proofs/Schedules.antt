@@ -91,15 +91,20 @@ module _ {P : Type 0} (t : Table P) (g : Grid) (events : List Event) (id n : ℕ
   pub next_case : (v : View P) → seat_at t g events (suc n) id ≡ Some v → IsIdle events id n ⊎ IsTurn t g events id n
   next_case v here = event_case v (slice_get events n) refl here
 
--- what follows the last step of a call is its answer
-pub ends_done : {P : Type 0} (t : Table P) (g : Grid) (events : List Event) (i seat : ℕ) (a : Answer) (x : EndsAt t g events i seat a)
-    → t.after g x.phase (finds t g (moment t g events i).words (begun t g x.before x.before.phase x.event.start) x.phase) ≡ Done a
-ends_done {P} t g events i seat a x =
-    let ws : List ℕ = (moment t g events i).words in
-    let own : IsTurn t g events seat i = record { event = x.event; here = x.here; own = x.own; before = x.before; view_before = x.view_before } in
-    let b : View P = began t g events seat i own in
-    let view : view_after t g ws b x.phase ≡ x.after = subst (λ (o : Option P). (moves t g ws b o).view ≡ x.after) x.is_step (turn_view t g events seat i own x.after x.view_after) in
-    done_is b.answer (t.after g x.phase (finds t g ws b x.phase)) a (ap (λ (v : View P). v.phase) view ∙ x.rests) (ap (λ (v : View P). v.answer) view ∙ x.answers)
+module _ {P : Type 0} (t : Table P) (g : Grid) (events : List Event) (i seat : ℕ) (a : Answer) (x : EndsAt t g events i seat a) where
+  -- the view before the last step of a call
+  abbrev pub last_view : View P
+  last_view = begun t g x.before x.before.phase x.event.start
+
+  -- the last step of a call leaves the view that its seat has then
+  pub ends_view : view_after t g (moment t g events i).words last_view x.phase ≡ x.after
+  ends_view =
+      let own : IsTurn t g events seat i = record { event = x.event; here = x.here; own = x.own; before = x.before; view_before = x.view_before } in
+      subst (λ (o : Option P). (moves t g (moment t g events i).words last_view o).view ≡ x.after) x.is_step (turn_view t g events seat i own x.after x.view_after)
+
+  -- what follows it is the answer
+  pub ends_done : t.after g x.phase (finds t g (moment t g events i).words last_view x.phase) ≡ Done a
+  ends_done = done_is last_view.answer (t.after g x.phase (finds t g (moment t g events i).words last_view x.phase)) a (ap (λ (v : View P). v.phase) ends_view ∙ x.rests) (ap (λ (v : View P). v.answer) ends_view ∙ x.answers)
 
 -- a seat has this view at its turn, after it began a call where it was at rest
 pub record IsAtTurn {P : Type 0} (t : Table P) (g : Grid) (events : List Event) (n id : ℕ) (v : View P) : Type 0 where

@@ -15,24 +15,25 @@ use Rattle.machine.specs.Steps.{IsWide, ShapedState, begun, finds, resting, star
 
 -- how many entries a seat has made, and how many all have
 abbrev pub made_count : {P : Type 0} → View P → ℕ
-made_count v = length v.made
+made_count view = length view.made
 
 abbrev pub made_total : {P : Type 0} → List (View P) → ℕ
-made_total vs = sum_by made_count vs
+made_total views = sum_by made_count views
 
 -- where a take ends with an entry, it has read all its words
 abbrev pub IsRead : {P : Type 0} → Grid → After P → List ℕ → Type 0
-IsRead g (Done (answer.Take (take.Ok place))) read = length read ≡ g.width
-IsRead g follows read = Unit {0}
+IsRead shape (Done (answer.Take (take.Ok place))) read = length read ≡ shape.width
+IsRead shape follows read = Unit {0}
 
 -- what a step needs: a phase in range, which finds a value in range, an entry of the right width,
 -- and the words read where it hands them out
-pub record CanStep {P : Type 0} (t : Table P) (g : Grid) (ws : List ℕ) (v : View P) (p : P)
+pub record CanStep {P : Type 0} (table : Table P) (shape : Grid) (words : List ℕ) (view : View P)
+    (phase : P)
     : Type 0 where
-  pub range : t.IsInRange g p
-  pub found : t.FindsFit p (finds t g ws v p)
-  pub wide : length v.entry ≡ g.width
-  pub read : IsRead g (t.after g p (finds t g ws v p)) v.read
+  pub range : table.IsInRange shape phase
+  pub found : table.FindsFit phase (finds table shape words view phase)
+  pub wide : length view.entry ≡ shape.width
+  pub read : IsRead shape (table.after shape phase (finds table shape words view phase)) view.read
 
 -- a fact that holds between any two steps, of the shape, the words and the views of all seats
 abbrev pub Fact : Type 0 → Type 1
@@ -41,28 +42,33 @@ Fact P = Grid → List ℕ → List (View P) → Type 0
 -- The fact is an invariant of the machine: it holds at the start, a call that begins keeps it,
 -- so does each step, and where it holds each step can be done. Steps are asked about only where
 -- the queue has room for all entries that are made.
-pub record IsInvariant {P : Type 0} (t : Table P) (Holds : Fact P) : Type 0 where
-  pub starts : (g : Grid) → IsWithinLimits g
-      → Holds g (start_words g) (replicate g.seats (resting P g))
-  pub begins : (g : Grid) (ws : List ℕ) (vs : List (View P)) (id : ℕ) (v : View P) (s : Start)
-      → IsWithinLimits g → Holds g ws vs
-      → slice_get vs id ≡ Some v → v.phase ≡ None → IsWide g s → t.MayBegin g id s
-      → Holds g ws (slice_set vs id (begun t g v None s))
-  pub steps : (g : Grid) (ws : List ℕ) (vs : List (View P)) (id : ℕ) (v : View P) (p : P)
-      → IsWithinLimits g → Holds g ws vs → made_total vs ≤ place_span g
-      → slice_get vs id ≡ Some v → v.phase ≡ Some p
-      → Holds g (words_after t g ws v p) (slice_set vs id (view_after t g ws v p))
-  pub can_step : (g : Grid) (ws : List ℕ) (vs : List (View P)) (id : ℕ) (v : View P) (p : P)
-      → IsWithinLimits g → Holds g ws vs → made_total vs ≤ place_span g
-      → slice_get vs id ≡ Some v → v.phase ≡ Some p
-      → CanStep t g ws v p
+pub record IsInvariant {P : Type 0} (table : Table P) (Holds : Fact P) : Type 0 where
+  pub starts : (shape : Grid) → IsWithinLimits shape
+      → Holds shape (start_words shape) (replicate shape.seats (resting P shape))
+  pub begins : (shape : Grid) (words : List ℕ) (views : List (View P)) (id : ℕ) (view : View P)
+      (call : Start)
+      → IsWithinLimits shape → Holds shape words views
+      → slice_get views id ≡ Some view → view.phase ≡ None → IsWide shape call
+      → table.MayBegin shape id call
+      → Holds shape words (slice_set views id (begun table shape view None call))
+  pub steps : (shape : Grid) (words : List ℕ) (views : List (View P)) (id : ℕ) (view : View P)
+      (phase : P)
+      → IsWithinLimits shape → Holds shape words views → made_total views ≤ place_span shape
+      → slice_get views id ≡ Some view → view.phase ≡ Some phase
+      → Holds shape (words_after table shape words view phase)
+      (slice_set views id (view_after table shape words view phase))
+  pub can_step : (shape : Grid) (words : List ℕ) (views : List (View P)) (id : ℕ) (view : View P)
+      (phase : P)
+      → IsWithinLimits shape → Holds shape words views → made_total views ≤ place_span shape
+      → slice_get views id ≡ Some view → view.phase ≡ Some phase
+      → CanStep table shape words view phase
 
 -- what each state that the machine reaches keeps: the invariant, all words, a view for each seat,
 -- and no more entries of a seat than it may put
-pub record IsKept {P : Type 0} (Holds : Fact P) (s : ShapedState P) : Type 0 where
-  pub limits : IsWithinLimits s.shape
-  pub holds : Holds s.shape s.state.words s.state.views
-  pub long : length s.state.words ≡ word_count s.shape
-  pub all : length s.state.views ≡ s.shape.seats
-  pub few : (j : ℕ) (u : View P) → slice_get s.state.views j ≡ Some u
-      → length u.made ≤ most_puts s.shape
+pub record IsKept {P : Type 0} (Holds : Fact P) (kept : ShapedState P) : Type 0 where
+  pub limits : IsWithinLimits kept.shape
+  pub holds : Holds kept.shape kept.state.words kept.state.views
+  pub long : length kept.state.words ≡ word_count kept.shape
+  pub all : length kept.state.views ≡ kept.shape.seats
+  pub few : (j : ℕ) (u : View P) → slice_get kept.state.views j ≡ Some u
+      → length u.made ≤ most_puts kept.shape

@@ -4,3 +4,4 @@ pub mod Steps
 pub mod Invariant
 pub mod Moments
 pub mod Bounds
+pub mod Entries

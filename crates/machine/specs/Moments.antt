@@ -22,7 +22,7 @@ pub record CallStep (P : Type 0) : Type 0 where
 
 -- what the steps found
 abbrev pub found_by : {P : Type 0} → List (CallStep P) → List ℕ
-found_by {P} steps = map (λ (t : CallStep P). t.found) steps
+found_by {P} steps = map (λ (step : CallStep P). step.found) steps
 
 -- a call that has ended: whose it was, and its answer
 pub record Ended : Type 0 where
@@ -31,21 +31,21 @@ pub record Ended : Type 0 where
 
 -- the call that a seat's step ends, if what follows is an answer
 abbrev pub ended_with : {P : Type 0} → ℕ → After P → List Ended
-ended_with seat (Next p) = []
+ended_with seat (Next phase) = []
 ended_with seat (Done given) = record { seat = seat; answer = given } ∷ []
 
 -- where a seat stands, and its last answer
 abbrev pub phase_in : {P : Type 0} → Option (View P) → Option P
 phase_in None = None
-phase_in (Some v) = v.phase
+phase_in (Some view) = view.phase
 
 abbrev pub answer_in : {P : Type 0} → Option (View P) → Option Answer
 answer_in None = None
-answer_in (Some v) = v.answer
+answer_in (Some view) = view.answer
 
 abbrev pub IsMidCall : {P : Type 0} → Option P → Type 0
 IsMidCall None = ⊥
-IsMidCall (Some p) = Unit {0}
+IsMidCall (Some phase) = Unit {0}
 
 abbrev pub BeginsCall : Start → Type 0
 BeginsCall start.Go = ⊥
@@ -53,55 +53,59 @@ BeginsCall begun = Unit {0}
 
 -- a call that begins has no steps yet
 abbrev pub steps_before : {P : Type 0} → Option P → Start → List (CallStep P) → List (CallStep P)
-steps_before (Some p) s steps = steps
+steps_before (Some phase) call steps = steps
 steps_before None (start.Put entry) steps = []
 steps_before None start.Take steps = []
 steps_before None start.Go steps = steps
 
-module _ {P : Type 0} (t : Table P) (g : Grid) where
+module _ {P : Type 0} (table : Table P) (shape : Grid) where
   -- the step that a seat takes at position n in this phase, where it finds old
   abbrev pub taken_step : List ℕ → ℕ → P → ℕ → CallStep P
-  taken_step entry n p old =
-      record { position = n; phase = p; found = noted (t.want g p entry) old }
+  taken_step entry n phase old =
+      record { position = n; phase = phase; found = noted (table.want shape phase entry) old }
 
   -- the steps of a seat's call with one more, which the seat takes at position n from this view
   abbrev pub and_step : List ℕ → ℕ → View P → Option P → List (CallStep P) → List (CallStep P)
-  and_step ws n v None steps = steps
-  and_step ws n v (Some p) steps = steps ++ taken_step v.entry n p (finds t g ws v p) ∷ []
+  and_step words n view None steps = steps
+  and_step words n view (Some phase) steps =
+      steps ++ taken_step view.entry n phase (finds table shape words view phase) ∷ []
 
   abbrev pub with_turn :
       List ℕ → ℕ → Start → Option (View P) → List (CallStep P) → List (CallStep P)
-  with_turn ws n s None steps = steps
-  with_turn ws n s (Some v) steps =
-      let turns : View P = begun t g v v.phase s in
-      and_step ws n turns turns.phase (steps_before v.phase s steps)
+  with_turn words n call None steps = steps
+  with_turn words n call (Some view) steps =
+      let turns : View P = begun table shape view view.phase call in
+      and_step words n turns turns.phase (steps_before view.phase call steps)
 
   abbrev pub with_event :
       MachineState P → ℕ → ℕ → Option Event → List (CallStep P) → List (CallStep P)
-  with_event w seat n None steps = steps
-  with_event w seat n (Some e) steps =
-      if e.seat == seat then with_turn w.words n e.start (slice_get w.views seat) steps else steps
+  with_event state seat n None steps = steps
+  with_event state seat n (Some event) steps =
+      if event.seat == seat then with_turn state.words n event.start
+          (slice_get state.views seat) steps else steps
 
   -- the call that a seat ends by its turn from this view
   abbrev pub ended_from : List ℕ → ℕ → View P → Option P → List Ended
-  ended_from ws seat v None = []
-  ended_from ws seat v (Some p) = ended_with seat (t.after g p (finds t g ws v p))
+  ended_from words seat view None = []
+  ended_from words seat view (Some phase) =
+      ended_with seat (table.after shape phase (finds table shape words view phase))
 
   abbrev pub ended_by_turn : List ℕ → ℕ → Start → Option (View P) → List Ended
-  ended_by_turn ws seat s None = []
-  ended_by_turn ws seat s (Some v) =
-      let turns : View P = begun t g v v.phase s in
-      ended_from ws seat turns turns.phase
+  ended_by_turn words seat call None = []
+  ended_by_turn words seat call (Some view) =
+      let turns : View P = begun table shape view view.phase call in
+      ended_from words seat turns turns.phase
 
   -- the call that an event ends
   abbrev pub ended_by : MachineState P → Option Event → List Ended
-  ended_by w None = []
-  ended_by w (Some e) = ended_by_turn w.words e.seat e.start (slice_get w.views e.seat)
+  ended_by state None = []
+  ended_by state (Some event) =
+      ended_by_turn state.words event.seat event.start (slice_get state.views event.seat)
 
-module _ {P : Type 0} (t : Table P) (g : Grid) (events : List Event) where
+module _ {P : Type 0} (table : Table P) (shape : Grid) (events : List Event) where
   -- the state after the first n events
   abbrev pub moment : ℕ → MachineState P
-  moment n = run t g (start_state P g) (take n events)
+  moment n = run table shape (start_state P shape) (take n events)
 
   -- what is known of a seat at a moment, if there is such a seat
   abbrev pub seat_at : ℕ → ℕ → Option (View P)
@@ -111,12 +115,12 @@ module _ {P : Type 0} (t : Table P) (g : Grid) (events : List Event) where
   abbrev pub steps_of : ℕ → ℕ → List (CallStep P)
   steps_of seat zero = []
   steps_of seat (suc n) =
-      with_event t g (moment n) seat n (slice_get events n) (steps_of seat n)
+      with_event table shape (moment n) seat n (slice_get events n) (steps_of seat n)
 
   -- the calls that the first n events ended, in order of their last steps
   abbrev pub ended : ℕ → List Ended
   ended zero = []
-  ended (suc n) = ended n ++ ended_by t g (moment n) (slice_get events n)
+  ended (suc n) = ended n ++ ended_by table shape (moment n) (slice_get events n)
 
   -- where a seat stands at a moment, and its last answer
   abbrev pub phase_of : ℕ → ℕ → Option P
@@ -133,7 +137,7 @@ module _ {P : Type 0} (t : Table P) (g : Grid) (events : List Event) where
     pub before : View P
     pub view_before : seat_at i seat ≡ Some before
     pub phase : P
-    pub is_step : (begun t g before before.phase event.start).phase ≡ Some phase
+    pub is_step : (begun table shape before before.phase event.start).phase ≡ Some phase
     pub after : View P
     pub view_after : seat_at (suc i) seat ≡ Some after
     pub rests : after.phase ≡ None
@@ -152,7 +156,8 @@ module _ {P : Type 0} (t : Table P) (g : Grid) (events : List Event) where
   -- all seats are at rest at moment n, and from there to moment m all events are of one seat
   pub record IsDoneAlone (seat n m : ℕ) : Type 0 where
     pub rest : (j : ℕ) → phase_of n j ≡ None
-    pub own : (k : ℕ) (e : Event) → n ≤ k → k < m → slice_get events k ≡ Some e → e.seat ≡ seat
+    pub own : (k : ℕ) (event : Event) → n ≤ k → k < m → slice_get events k ≡ Some event
+        → event.seat ≡ seat
 
   -- no other seat is in mid-call at a moment after the first step of the call and before its last
   abbrev pub IsUnmixed : ℕ → ℕ → ℕ → Type 0
@@ -170,3 +175,20 @@ module _ {P : Type 0} (t : Table P) (g : Grid) (events : List Event) where
     pub other : ℕ
     pub apart : other ≢ seat
     pub mid : IsMidCall (phase_of during other)
+
+  -- a call of this seat that begins after the event at one position, and that the event at
+  -- position i ends with this answer
+  pub record IsLaterCall (position i seat : ℕ) (a : Answer) : Type 0 where
+    pub first : ℕ
+    pub begins : Start
+    pub later : position < first
+    pub call : IsCall seat first (suc i) begins
+    pub ends : EndsAt i seat a
+
+  -- Answers that name a place are in order of time: where a call that begins after one was given
+  -- has
+  -- one for another place, that place is the later.
+  abbrev pub IsInOrder : (ℕ → Answer) → Type 0
+  IsInOrder names =
+      (i seat place j other later : ℕ) → EndsAt i seat (names place)
+      → IsLaterCall i j other (names later) → place < later

@@ -47,19 +47,19 @@ module _ {P : Type 0} where
   taken_after taken read follows = taken
 
   abbrev pub phase_after : After P → Option P
-  phase_after (Next p) = Some p
+  phase_after (Next phase) = Some phase
   phase_after (Done given) = None
 
   abbrev pub answer_after : Option Answer → After P → Option Answer
-  answer_after last (Next p) = last
+  answer_after last (Next phase) = last
   answer_after last (Done given) = Some given
 
 -- a seat that has done nothing
 abbrev pub resting : (P : Type 0) → Grid → View P
-resting P g =
+resting P shape =
     record {
       phase = None;
-      entry = replicate g.width 0;
+      entry = replicate shape.width 0;
       made = [];
       taken = [];
       read = [];
@@ -67,102 +67,113 @@ resting P g =
       trail = [];
     }
 
-module _ {P : Type 0} (t : Table P) (g : Grid) where
+module _ {P : Type 0} (table : Table P) (shape : Grid) where
   -- the word of a step, and what stands there
   abbrev pub index_of_step : View P → P → ℕ
-  index_of_step v p = index (t.want g p v.entry)
+  index_of_step view phase = index (table.want shape phase view.entry)
 
   abbrev pub finds : List ℕ → View P → P → ℕ
-  finds ws v p = slice_index ws (index_of_step v p)
+  finds words view phase = slice_index words (index_of_step view phase)
 
   -- the words read after a step that found old
   abbrev pub read_after : List ℕ → P → ℕ → List ℕ
-  read_after read p old = if reads_word (t.reading p) then read ++ old ∷ [] else read
+  read_after read phase old = if reads_word (table.reading phase) then read ++ old ∷ [] else read
 
   -- the view after a step of this phase that found old
   abbrev pub seen : View P → P → ℕ → View P
-  seen v p old =
+  seen view phase old =
       record {
-        phase = phase_after (t.after g p old);
-        entry = v.entry;
-        made = made_after v.made v.entry (t.after g p old);
-        taken = taken_after v.taken v.read (t.after g p old);
-        read = read_after v.read p old;
-        answer = answer_after v.answer (t.after g p old);
-        trail = v.trail ++ noted (t.want g p v.entry) old ∷ [];
+        phase = phase_after (table.after shape phase old);
+        entry = view.entry;
+        made = made_after view.made view.entry (table.after shape phase old);
+        taken = taken_after view.taken view.read (table.after shape phase old);
+        read = read_after view.read phase old;
+        answer = answer_after view.answer (table.after shape phase old);
+        trail = view.trail ++ noted (table.want shape phase view.entry) old ∷ [];
       }
 
   -- the words, and the seat's view, after the step of a view in this phase
   abbrev pub words_after : List ℕ → View P → P → List ℕ
-  words_after ws v p =
-      slice_set ws (index_of_step v p) (moved (t.want g p v.entry) (finds ws v p))
+  words_after words view phase =
+      slice_set words (index_of_step view phase)
+          (moved (table.want shape phase view.entry) (finds words view phase))
 
   abbrev pub view_after : List ℕ → View P → P → View P
-  view_after ws v p = seen v p (finds ws v p)
+  view_after words view phase = seen view phase (finds words view phase)
 
   -- the view of a seat at its turn, before its step: a seat at rest begins the call that is named
   abbrev pub begun : View P → Option P → Start → View P
-  begun v (Some p) s = v
-  begun v None (start.Put entry) =
-      record v { phase = Some t.first_put; entry = entry; trail = [] }
-  begun v None start.Take =
-      record v { phase = Some (t.first_take g v.taken); read = []; trail = [] }
-  begun v None start.Go = v
+  begun view (Some phase) call = view
+  begun view None (start.Put entry) =
+      record view { phase = Some table.first_put; entry = entry; trail = [] }
+  begun view None start.Take =
+      record view { phase = Some (table.first_take shape view.taken); read = []; trail = [] }
+  begun view None start.Go = view
 
   -- what a seat in this phase does at its turn; at rest nothing
   abbrev pub moves : List ℕ → View P → Option P → Scene P
-  moves ws v None = record { words = ws; view = v }
-  moves ws v (Some p) = record { words = words_after ws v p; view = view_after ws v p }
+  moves words view None = record { words = words; view = view }
+  moves words view (Some phase) =
+      record { words = words_after words view phase; view = view_after words view phase }
 
   -- a seat's turn: it begins a call where it is at rest, and does one step
   abbrev pub turned : List ℕ → View P → Start → Scene P
-  turned ws v s = moves ws (begun v v.phase s) (begun v v.phase s).phase
+  turned words view call =
+      moves words (begun view view.phase call) (begun view view.phase call).phase
 
   -- the turn of the seat of this number, if there is one
   abbrev pub turn : MachineState P → ℕ → Start → Option (View P) → MachineState P
-  turn w id s None = w
-  turn w id s (Some v) =
+  turn state id call None = state
+  turn state id call (Some view) =
       record {
-        words = (turned w.words v s).words;
-        views = slice_set w.views id (turned w.words v s).view;
+        words = (turned state.words view call).words;
+        views = slice_set state.views id (turned state.words view call).view;
       }
 
   -- one event
   abbrev pub step : MachineState P → Event → MachineState P
-  step w e = turn w e.seat e.start (slice_get w.views e.seat)
+  step state event = turn state event.seat event.start (slice_get state.views event.seat)
 
   -- a schedule: its events in order
   abbrev pub run : MachineState P → List Event → MachineState P
-  run w [] = w
-  run w (e ∷ es) = run (step w e) es
+  run state [] = state
+  run state (event ∷ events) = run (step state event) events
+
+-- a turn of a seat that begins nothing, and a schedule of as many of them
+abbrev pub go : ℕ → Event
+go seat = record { seat = seat; start = start.Go }
+
+abbrev pub goes : ℕ → ℕ → List Event
+goes seat count = replicate count (go seat)
 
 -- an entry that is named has as many words as the shape says
 abbrev pub IsWide : Grid → Start → Type 0
-IsWide g (start.Put entry) = length entry ≡ g.width
-IsWide g start.Take = Unit {0}
-IsWide g start.Go = Unit {0}
+IsWide shape (start.Put entry) = length entry ≡ shape.width
+IsWide shape start.Take = Unit {0}
+IsWide shape start.Go = Unit {0}
 
 -- an event that a queue of this shape can do
-pub record Suits {P : Type 0} (t : Table P) (g : Grid) (e : Event) : Type 0 where
-  pub seat : e.seat < g.seats
-  pub wide : IsWide g e.start
-  pub may_begin : t.MayBegin g e.seat e.start
+pub record Suits {P : Type 0} (table : Table P) (shape : Grid) (event : Event) : Type 0 where
+  pub seat : event.seat < shape.seats
+  pub wide : IsWide shape event.start
+  pub may_begin : table.MayBegin shape event.seat event.start
 
 -- all words at their start, and all seats at rest
 abbrev pub start_words : Grid → List ℕ
-start_words g = map (start_at g) (range_with_len 0 (word_count g))
+start_words shape = map (start_at shape) (range_with_len 0 (word_count shape))
 
 abbrev pub start_state : (P : Type 0) → Grid → MachineState P
-start_state P g = record { words = start_words g; views = replicate g.seats (resting P g) }
+start_state P shape =
+    record { words = start_words shape; views = replicate shape.seats (resting P shape) }
 
 -- what is known of a seat
 abbrev pub view_of : {P : Type 0} → ShapedState P → ℕ → View P
-view_of {P} s seat = unwrap_or (slice_get s.state.views seat) (resting P s.shape)
+view_of {P} shaped seat = unwrap_or (slice_get shaped.state.views seat) (resting P shaped.shape)
 
 -- all seats are at rest
 abbrev pub AllRest : {P : Type 0} → List (View P) → Type 0
-AllRest {P} vs = (j : ℕ) (u : View P) → slice_get vs j ≡ Some u → u.phase ≡ None
+AllRest {P} views = (j : ℕ) (u : View P) → slice_get views j ≡ Some u → u.phase ≡ None
 
 -- whether a seat is in a call
 abbrev pub is_mid_call : {P : Type 0} → View P → Bool
-is_mid_call v = is_some v.phase
+is_mid_call view = is_some view.phase

@@ -4,6 +4,7 @@ ghost use Rattle.cursor_word.specs.Layout.{word_count};
 ghost use Rattle.machine.specs.Ops.{index};
 ghost use Rattle.machine.specs.Table.{Table, word_of};
 ghost use Rattle.machine.specs.Invariant.{Fact, IsInvariant};
+ghost use Rattle.machine.specs.Bounds.{IsRanked};
 
 use crate::op::{After, Op};
 use cursor_word::Shape;
@@ -46,4 +47,8 @@ pub trait Phase: Copy {
     /// The law of the machine: it keeps what holds. It does nothing when it runs.
     fn keeps()
         ensures { IsInvariant table Holds };
+
+    /// The law of its calls: each ends. It does nothing when it runs.
+    fn ends()
+        ensures { IsRanked table };
 }

@@ -1,8 +1,9 @@
-ghost use Rattle.std.specs.Prelude.{◌≡◌, ℕ, ◌<◌, ◌↔◌, IsNone, IfSome, IfOk, IsTrue, Option, Some, None, OnOk, OnErr, length, map, replicate, slice_index};
+ghost use Rattle.std.specs.Prelude.{◌≡◌, ℕ, ◌<◌, ◌≤◌, ◌↔◌, IsNone, IfSome, IfOk, IsTrue, Option, Some, None, OnOk, OnErr, length, map, replicate, slice_index};
 ghost use Rattle.std.specs.List.{AllByRecursion};
 ghost use Rattle.cursor_word.specs.Cursor.{most_puts};
 ghost use Rattle.cursor_word.specs.Layout.{word_count};
-ghost use Rattle.machine.specs.Steps.{Suits, begun, is_mid_call, resting, run, start_state, start_words, step, turned, view_of};
+ghost use Rattle.machine.specs.Steps.{Suits, begun, go, goes, is_mid_call, resting, run, start_state, start_words, step, turned, view_of};
+ghost use Rattle.machine.specs.Bounds.{call_bound};
 ghost use Rattle.machine.specs.Invariant.{CanStep};
 
 use crate::event::{Event, Start};
@@ -68,6 +69,33 @@ impl<P: Phase> State<P> {
         P::keeps();
         let seat = &mut self.seats[event.seat as usize];
         turn(&self.shape, &mut self.words, seat, &event.start)
+    }
+
+    /// The steps of the seat's call, until it is at rest. After want of memory those that were done
+    /// stand.
+    pub fn finish(&mut self, seat: u64) -> Result<(), AllocError>
+        requires suits { Suits P.table self.old.shape (go seat) }
+        requires room { length (view_of self.old seat).made < most_puts self.old.shape }
+        ensures shape { self.new.shape ≡ self.old.shape }
+        ensures steps { (count : ℕ) × (count ≤ call_bound self.old.shape)
+            × (self.new.state
+            ≡ run P.table self.old.shape self.old.state (goes seat count)) }
+        ensures rests { OnOk result ((view_of self.new seat).phase ≡ None) }
+        ensures idle { (view_of self.old seat).phase ≡ None → self.new ≡ self.old }
+    {
+        P::keeps();
+        P::ends();
+        let most = self.shape.width() + 12;
+        for _step in 0..most {
+            if !self.mid_call(seat) {
+                return Ok(());
+            }
+            self.step(&Event {
+                seat,
+                start: Start::Go,
+            })?;
+        }
+        Ok(())
     }
 
     /// A word.

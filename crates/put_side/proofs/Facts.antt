@@ -112,6 +112,15 @@ module _ {g : Grid} {front : Front} {cs : PutCursors} (w : PutWords g front cs) 
           let f = found_by (h % g.blocks) _ (inr r) l in
           let s = same _ _ (l.same ∙ e) in omega (arith, f.to)
 
+      -- each cursor is of a block of its physical block
+      pub allocated_same : (h : ℕ) → (cs.allocated h / offset_span) % g.blocks ≡ h % g.blocks
+      allocated_same h =
+          let r : h % g.blocks < g.blocks = mod_below h g.blocks (omega arith) in
+          let e : h % g.blocks % g.blocks ≡ h % g.blocks = mod-mod h g.blocks in
+          let l = latest_is g.blocks (h % g.blocks) front.last (omega arith) (omega (arith, w.from)) in
+          let f = found_by (h % g.blocks) _ (inr r) l in
+          ap (λ (word : ℕ). (word / offset_span) % g.blocks) (sym (same _ _ (l.same ∙ e))) ∙ f.same ∙ e
+
       -- the block of a filled cursor was opened
       pub filled_opened : (full : Cursor) → IsFilled g cs full → full.block ≤ front.last
       filled_opened full f = let b = allocated_below full.block in omega (arith, f.known)

@@ -221,7 +221,7 @@ module _ {P : Type 0} (stage : View P → PutStage) (g : Grid) (limits : IsWithi
       }
 
 module _ {P : Type 0} (stage : P → PutStage) (table : Table P) (puts : IsPutTable stage table) (g : Grid) where
-  stage_next : (b : After P) → stage_in stage (phase_after b) ≡ stage_after stage b
+  pub stage_next : (b : After P) → stage_in stage (phase_after b) ≡ stage_after stage b
   stage_next (Next p) = refl
   stage_next (Done a) = refl
 

@@ -20,3 +20,5 @@ pub mod Made
 pub mod Few
 pub mod Permutes
 pub mod Rests
+pub mod InTime
+pub mod SeatItems

@@ -43,7 +43,7 @@ module _ {P : Type 0} (vs : List (View P)) (id : ℕ) (v v' : View P) (at : slic
   made_same same = made_grows (λ p. let e = ap (λ (l : List Placed). times p (places l)) same in omega arith) (λ i item e. ap (λ (l : List Placed). slice_get l i) same ∙ e)
 
 module _ {P : Type 0} where
-  makes_more : (made : List Placed) (entry : List ℕ) (p : ℕ) (b : After P) → times p (places made) ≤ times p (places (made_after made entry b))
+  pub makes_more : (made : List Placed) (entry : List ℕ) (p : ℕ) (b : After P) → times p (places made) ≤ times p (places (made_after made entry b))
   makes_more made entry p (Done (answer.Put (put.Ok place))) =
       let e : times p (places (made ++ placed place entry ∷ [])) ≡ times p (places made) + one_at place p = ap (times p) (map-append (λ (z : Placed). z.place) made _) ∙ times_push p place (places made) in omega arith
   makes_more made entry p b = omega arith

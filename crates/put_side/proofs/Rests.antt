@@ -15,7 +15,8 @@ use Rattle.put_side.specs.Stages.{PutStage, held}
 use Rattle.put_side.specs.Stages.{Away}
 use Rattle.put_side.specs.Counts.{claim_count, claims, makes, times}
 use Rattle.put_side.specs.Entries.{HasEntries, IsPresent}
-use Rattle.put_side.specs.Gathered.{all_made, entry_at}
+use Rattle.machine.specs.Entries.{entry_at}
+use Rattle.put_side.specs.Gathered.{all_made}
 use Rattle.put_side.specs.Manned.{IsManned, enters, in_all, opens_allocated, raises_producer}
 use Rattle.put_side.proofs.Sums.{sum_alike, sum_none}
 use Rattle.put_side.proofs.Gathers.{times_all}

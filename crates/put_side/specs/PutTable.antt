@@ -26,7 +26,8 @@ IsNoCommit (Commit at) = ⊥
 IsNoCommit stage = Unit {0}
 
 -- The block after the last one may be opened: the block that it takes the place of, where that
--- holds entries at all, is wholly committed. What a queue knows of that block's takes is its own affair.
+-- holds entries at all, is wholly committed. What a queue knows of that block's takes is its own
+-- affair.
 abbrev pub MayOpen : Grid → ℕ → PutCursors → Type 0
 MayOpen shape last cursors = shape.blocks + shape.blocks ≤ last + 1
     → cursors.committed (last + 1) % offset_span ≡ shape.size

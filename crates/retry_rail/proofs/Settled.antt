@@ -23,8 +23,7 @@ use Rattle.bbq_core.proofs.Settles.{settled}
 use Rattle.call_laws.specs.Left.{left_in}
 use Rattle.call_steps.specs.Queue.{Seated}
 use Rattle.shared_seats.specs.Seats.{HasStopped, in_order, made_by_all, taken_by_all, views_of_all}
-use Rattle.shared_seats.proofs.Ordered.{ordered}
-use Rattle.shared_seats.proofs.Stepped.{few_places}
+use Rattle.shared_seats.proofs.Closes as closes
 use Rattle.retry_rail.specs.Closed.{first_taken}
 
 module _ (g : Grid) (words : List ℕ) (seats : List (Seated Phase)) (stopped : HasStopped table IsSound g words (views_of_all seats)) where
@@ -34,45 +33,33 @@ module _ (g : Grid) (words : List ℕ) (seats : List (Seated Phase)) (stopped : 
   s : IsSettled g (record { words = words; views = vs })
   s = settled g (record { words = words; views = vs }) stopped.limits stopped.holds stopped.rest
 
-  made_is : all_made vs ≡ made_by_all seats
-  made_is = flat_map-map (λ (v : View). v.made) (λ (x : Seated Phase). x.view) seats
-
-  taken_is : all_taken vs ≡ taken_by_all seats
-  taken_is = flat_map-map (λ (v : View). v.taken) (λ (x : Seated Phase). x.view) seats
-
-  made_sum : made_total vs ≡ length (made_by_all seats)
-  made_sum = sym (length-flat_map (λ (v : View). v.made) vs) ∙ ap length made_is
-
   taken_sum : taken_total vs ≡ length (taken_by_all seats)
-  taken_sum = sym (length-flat_map (λ (v : View). v.taken) vs) ∙ ap length taken_is
-
-  accepted : IsAccepted (made_by_all seats) s.accepted
-  accepted = subst (λ (items : List Placed). IsAccepted items s.accepted) made_is s.is_accepted
+  taken_sum = sym (length-flat_map (λ (v : View). v.taken) vs) ∙ ap length (closes.taken_is seats)
 
   in_order_is : in_order (made_by_all seats) ≡ s.accepted
-  in_order_is = ordered (made_by_all seats) s.accepted accepted
+  in_order_is = closes.in_order_is seats s.accepted s.is_accepted
 
   -- the number of taken items
   taken_count : length (taken_by_all seats) ≡ s.outcome.count
-  taken_count = sym (ap length taken_is) ∙ (sym (length_permutation (all_taken vs) (take s.outcome.count s.accepted) s.outcome.first_taken) ∙ length-take-le s.outcome.count s.accepted s.outcome.within)
+  taken_count = sym (ap length (closes.taken_is seats)) ∙ (sym (length_permutation (all_taken vs) (take s.outcome.count s.accepted) s.outcome.first_taken) ∙ length-take-le s.outcome.count s.accepted s.outcome.within)
 
   made_length : length (made_by_all seats) ≡ length s.accepted
-  made_length = sym (length_permutation (made_by_all seats) s.accepted accepted.all_made)
+  made_length = sym (length_permutation (made_by_all seats) s.accepted (closes.accepted_by_all seats s.accepted s.is_accepted).all_made)
 
   first_is : first_taken seats ≡ take s.outcome.count s.accepted
   first_is = ap (λ (n : ℕ). take n (in_order (made_by_all seats))) taken_count ∙ ap (take s.outcome.count) in_order_is
 
   pub few_made : length (made_by_all seats) ≤ place_span g
-  few_made = let few = few_places table g vs stopped.all stopped.few in let e = made_sum in omega arith
+  few_made = closes.few_made seats table IsSound g words stopped
 
   pub fewer_taken : length (taken_by_all seats) ≤ length (made_by_all seats)
   fewer_taken = let e = taken_count in let m = made_length in let w = s.outcome.within in omega arith
 
   pub closed_accepted : IsAccepted (made_by_all seats) (in_order (made_by_all seats))
-  closed_accepted = subst (IsAccepted (made_by_all seats)) (sym in_order_is) accepted
+  closed_accepted = closes.accepted_in_order seats s.accepted s.is_accepted
 
   pub closed_taken : IsPermutation (taken_by_all seats) (first_taken seats)
-  closed_taken = subst (IsPermutation (taken_by_all seats)) (sym first_is) (subst (λ (items : List Placed). IsPermutation items (take s.outcome.count s.accepted)) taken_is s.outcome.first_taken)
+  closed_taken = subst (IsPermutation (taken_by_all seats)) (sym first_is) (subst (λ (items : List Placed). IsPermutation items (take s.outcome.count s.accepted)) (closes.taken_is seats) s.outcome.first_taken)
 
   pub closed_order : IsRising (places (first_taken seats))
   closed_order = subst (λ (items : List Placed). IsRising (places items)) (sym first_is) (subst IsRising (sym (dense_take s.outcome.count s.accepted s.is_accepted.no_gap s.outcome.within)) (rising_range 0 s.outcome.count))
@@ -83,5 +70,5 @@ module _ (g : Grid) (words : List ℕ) (seats : List (Seated Phase)) (stopped : 
     count = s.outcome.count;
     within = s.outcome.within;
     first_taken = subst (IsPermutation (first_taken seats)) first_is (IsPermutation-refl (first_taken seats));
-    rest_left = is ∙ (ap (λ (n : ℕ). left_in g words n (length (made_by_all seats))) (sym taken_sum) ∙ (ap (left_in g words (taken_total vs)) (sym made_sum) ∙ s.outcome.rest_left));
+    rest_left = is ∙ (ap (λ (n : ℕ). left_in g words n (length (made_by_all seats))) (sym taken_sum) ∙ (ap (left_in g words (taken_total vs)) (sym (closes.made_sum seats)) ∙ s.outcome.rest_left));
   }

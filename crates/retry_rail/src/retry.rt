@@ -6,7 +6,7 @@ ghost use Rattle.rail.specs.Items.{IsRising, places};
 ghost use Rattle.rail.specs.Outcome.{DropOutcome, IsAccepted, RetryOutcome, numbers_below};
 ghost use Rattle.rail.specs.Rail.{Puts, Takes};
 ghost use Rattle.rail.specs.declared.answer.Answer.TheVariants as answer;
-ghost use Rattle.step_log.specs.declared.step.Taken.{Taken};
+ghost use Rattle.step_log.specs.declared.log.Step.{Step};
 ghost use Rattle.bbq_core.specs.Table.{table};
 ghost use Rattle.bbq_core.specs.declared.phase.Phase.{Phase};
 ghost use Rattle.call_steps.specs.Call.{TookSteps};
@@ -162,7 +162,7 @@ impl Rail for RetryRail {
         ensures answer { Puts self.now.shape false entry.now seat.old.view.made seat.new.view.made
             seat.new.view.trail result }
         ensures told { seat.new.view.answer ≡ Some (answer.Put result) }
-        ensures steps { (steps : List Taken)
+        ensures steps { (steps : List Step)
             × TookSteps table self.now.shape entry.now table.first_put steps (answer.Put result)
             seat.new.view.trail seat.old.log seat.new.log }
     {
@@ -180,7 +180,7 @@ impl Rail for RetryRail {
         ensures answer { Takes self.now.shape false seat.new.view.made out.old out.new
             seat.old.view.taken seat.new.view.taken seat.new.view.trail result }
         ensures told { seat.new.view.answer ≡ Some (answer.Take result) }
-        ensures steps { (steps : List Taken)
+        ensures steps { (steps : List Step)
             × TookSteps table self.now.shape []
             (table.first_take self.now.shape seat.old.view.taken) steps (answer.Take result)
             seat.new.view.trail seat.old.log seat.new.log }

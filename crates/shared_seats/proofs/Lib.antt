@@ -5,3 +5,4 @@ pub mod Starts
 pub mod Stepped
 pub mod Stops
 pub mod Ordered
+pub mod Closes

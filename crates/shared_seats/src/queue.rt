@@ -6,7 +6,7 @@ ghost use Rattle.cursor_word.specs.Cursor.{most_puts};
 ghost use Rattle.cursor_word.specs.Layout.{word_count};
 ghost use Rattle.rail.specs.Rail.{Puts, Takes};
 ghost use Rattle.rail.specs.declared.answer.Answer.TheVariants as answer;
-ghost use Rattle.step_log.specs.declared.step.Taken.{Taken};
+ghost use Rattle.step_log.specs.declared.log.Step.{Step};
 ghost use Rattle.call_steps.specs.Call.{TookSteps};
 ghost use Rattle.call_steps.specs.Queue.{IsFresh, IsSeatOf, Queue};
 ghost use Rattle.shared_seats.specs.Seats.{HasStopped, views_of_all};
@@ -80,7 +80,7 @@ impl<P: SharedPhase> SharedQueue<P> {
         ensures answer { Puts self.now.shape P.drops entry.now seat.old.view.made seat.new.view.made
             seat.new.view.trail result }
         ensures told { seat.new.view.answer ≡ Some (answer.Put result) }
-        ensures steps { (steps : List Taken)
+        ensures steps { (steps : List Step)
             × TookSteps P.table self.now.shape entry.now P.table.first_put steps (answer.Put result)
             seat.new.view.trail seat.old.log seat.new.log }
     {
@@ -107,7 +107,7 @@ impl<P: SharedPhase> SharedQueue<P> {
         ensures answer { Takes self.now.shape P.drops seat.new.view.made out.old out.new
             seat.old.view.taken seat.new.view.taken seat.new.view.trail result }
         ensures told { seat.new.view.answer ≡ Some (answer.Take result) }
-        ensures steps { (steps : List Taken)
+        ensures steps { (steps : List Step)
             × TookSteps P.table self.now.shape [] first steps (answer.Take result)
             seat.new.view.trail seat.old.log seat.new.log }
     {

@@ -8,7 +8,7 @@ use call_laws::SharedPhase;
 use call_steps::MachineRule;
 use cursor_word::Shape;
 use std::marker::PhantomData;
-use step_log::{StepRule, Told};
+use step_log::{StepFact, StepRule};
 
 pub struct Holdings<P> {
     of: PhantomData<P>,
@@ -39,7 +39,7 @@ impl<P: SharedPhase> MachineRule<P> for Holdings<P> {
 /// Seats are dealt, and gathered again.
 pub struct Deal;
 
-impl<P: SharedPhase> Told<Holdings<P>> for Deal {
+impl<P: SharedPhase> StepFact<Holdings<P>> for Deal {
     ghost then = { λ v t w. w ≡ v };
 
     ghost left = { other_seats };

@@ -7,7 +7,7 @@ returns-clause-on g c = λ call shape words start i.
     let t = g.P.Phase.table in
     let o = c.operate-found.ensures in
     put_on t g.P.CallPhase.drops g.U.MachineRule.rule c.calls.ensures.table c.calls.ensures.reads _ c.runs.ensures call _ _ i _ _ _ _ (sym start)
-    (c.want-op.ensures.op ∙ ap (λ s. t.want s c.args.phase c.args.entry.now) (sym shape) ∙ ap (t.want call.shape c.args.phase) (sym words)) o.log o.told o.value _
+    (c.want-op.ensures.op ∙ ap (λ s. t.want s c.args.phase c.args.entry.now) (sym shape) ∙ ap (t.want call.shape c.args.phase) (sym words)) o.log o.fact o.value _
     (ap (λ s. t.after s c.args.phase c.operate-found.result) shape ∙ sym c.after.ensures)
 
 pub returns-clause-falls : goal.returns-clause-falls

@@ -1,0 +1,5 @@
+use Rattle.drop_core.proofs.StepBound.{ranked}
+use Rattle.drop_core.proofs.table.DropPhasePhase.ends.Goals as goal
+
+pub returns : goal.returns
+returns c = ranked
