@@ -1,0 +1,12 @@
+use Rattle.std.proofs.Common.{◌∙◌, map, sym}
+use Rattle.std.proofs.lemmas.List.{length-map}
+use Rattle.std.proofs.lemmas.List.FromFn.{length-range_with_len}
+use Rattle.std.proofs.lemmas.List.Sorted.{length_permutation}
+use Rattle.rail.specs.Outcome.{numbers_below}
+use Rattle.drop_core.specs.declared.phase.DropPhase.{DropPhase}
+use Rattle.call_steps.specs.Queue.{Seated}
+use Rattle.drop_rail.proofs.drop.DropRailRail.close.Goals as goal
+
+pub finish-requires-clause-all : goal.finish-requires-clause-all
+finish-requires-clause-all c = let n = c.args.self.shape.seats in
+    sym (length-map c.args.seats.items (λ (s : Seated DropPhase). s.number)) ∙ (sym (length_permutation (map (λ (s : Seated DropPhase). s.number) c.args.seats.items) (numbers_below n) c.requires.all) ∙ length-range_with_len 0 n)

@@ -1,0 +1,24 @@
+-- What a closed queue has: the accepted items are all that was made, and in their order those of
+-- them that were taken.
+use Rattle.std.specs.Prelude.{Bool, List, filter, ◌==◌}
+use Rattle.std.specs.List.{list_any}
+use Rattle.cursor_word.specs.Shape.{Grid}
+use Rattle.rail.specs.declared.entry.Placed.{Placed}
+use Rattle.call_steps.specs.Queue.{Closed, Seated}
+use Rattle.shared_seats.specs.Seats.{in_order, made_by_all, taken_by_all}
+
+-- an item of this place was taken
+abbrev pub is_taken : List Placed → Placed → Bool
+is_taken taken item = list_any (λ (t : Placed). t.place == item.place) taken
+
+abbrev pub taken_in_order : {P : Type 0} → List (Seated P) → List Placed
+taken_in_order seats = filter (is_taken (taken_by_all seats)) (in_order (made_by_all seats))
+
+abbrev pub closed : {P : Type 0} → Grid → List (Seated P) → List Placed → Closed
+closed g seats left =
+    record {
+      shape = g;
+      accepted = in_order (made_by_all seats);
+      taken = taken_in_order seats;
+      left = left;
+    }
