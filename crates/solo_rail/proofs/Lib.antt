@@ -1,4 +1,6 @@
-mod Kept
-mod Starts
-mod Finish
-mod Answered
+pub mod Kept
+pub mod Starts
+pub mod Answered
+pub mod Stops
+mod RetryAlone
+mod RetrySettled

@@ -1,2 +1,4 @@
+pub mod Lone
 pub mod Holding
 pub mod Solo
+pub mod Retry

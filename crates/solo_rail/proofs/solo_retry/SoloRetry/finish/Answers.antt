@@ -1,18 +1,27 @@
-use Rattle.std.proofs.Common.{ap, arith}
+use Rattle.std.proofs.Common.{◌≡◌, ◌+◌, ◌-◌, ◌++◌, length, ap, ◌∙◌, arith}
 use Rattle.cursor_word.specs.Cursor.{place_span}
-use Rattle.solo_rail.proofs.Finish.{finish_seen, retry_seen, settles}
+use Rattle.call_laws.specs.Left.{left_in}
+use Rattle.solo_rail.proofs.RetrySettled.{few_places, fewer, retry_left, retry_order, retry_whole}
 use Rattle.solo_rail.proofs.solo_retry.SoloRetry.finish.Goals as goal
 
 pub read_left-requires-clause-places : goal.read_left-requires-clause-places
 read_left-requires-clause-places c =
-    let s = settles _ _ _ c.close-stopped.ensures.rule c.seat.invariant.0 in
-    omega (arith, s.few, s.fewer, c.seat.invariant.1, c.seat.invariant.2, c.saturating_sub.ensures, ap place_span c.self.invariant.0, s.limits.size_to)
+    let stopped = c.stop-stopped.ensures.stopped in
+    let less = fewer _ _ _ stopped in let few = few_places _ _ _ stopped in
+    omega (arith, c.puts-puts.ensures, c.takes-takes.ensures, c.saturating_sub.ensures, ap place_span c.shape-shape.ensures.shape, stopped.limits.size_to)
 
 pub returns-clause-whole : goal.returns-clause-whole
-returns-clause-whole c = (finish_seen _ _ _ _ _ _ c.seat.view_is c.seat.invariant.0 c.close-stopped.ensures.rule).whole
+returns-clause-whole c = retry_whole _ _ _ c.stop-stopped.ensures.stopped
 
 pub returns-clause-order : goal.returns-clause-order
-returns-clause-order c = (finish_seen _ _ _ _ _ _ c.seat.view_is c.seat.invariant.0 c.close-stopped.ensures.rule).order
+returns-clause-order c = retry_order _ _ _ c.stop-stopped.ensures.stopped
 
 pub returns-clause-retry : goal.returns-clause-retry
-returns-clause-retry c = retry_seen _ _ _ _ _ _ _ _ _ _ _ _ c.seat.view_is c.seat.invariant.0 c.close-stopped.ensures.rule c.self.invariant.0 c.seat.invariant.2 c.seat.invariant.1 c.saturating_sub.ensures c.requires.empty c.read_left.ensures.items
+returns-clause-retry c =
+    let words = c.stop-stopped.result in let takes = c.takes-takes.result in
+    let count : c.saturating_sub.result ≡ length c.args.seat.view.made - takes = c.saturating_sub.ensures ∙ ap (λ n. n - takes) c.puts-puts.ensures in
+    retry_left _ words _ c.stop-stopped.ensures.stopped takes _ c.takes-takes.ensures
+    (c.read_left.ensures.items
+    ∙ (ap (λ items. items ++ left_in c.shape-shape.result words takes (takes + c.saturating_sub.result)) c.requires.empty
+    ∙ (ap (λ g. left_in g words takes (takes + c.saturating_sub.result)) c.shape-shape.ensures.shape
+    ∙ ap (λ n. left_in c.self.inside.queue.shape words takes (takes + n)) count)))
