@@ -139,4 +139,4 @@ GoesOnAlone shape accepted next words views id (Next p) =
     IsAlone shape accepted next words views id p
 GoesOnAlone shape accepted next words views id (Done a) =
     AnswersAlone shape accepted next a
-        × IsStill shape (accepted + accepts a) (next_after next a) words views
+    × IsStill shape (accepted + accepts a) (next_after next a) words views

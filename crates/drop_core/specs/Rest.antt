@@ -38,5 +38,5 @@ AnswersAsOne shape accepted next begun a = ⊥
 abbrev pub AnsweredAsOne : Grid → List Event → ℕ → ℕ → ℕ → Start → Type 0
 AnsweredAsOne shape events seat n m begun =
     AnswersAsOne shape (made_total (moment table shape events n).views)
-        (next_place shape events n) begun
+    (next_place shape events n) begun
     (answer_of table shape events m seat)

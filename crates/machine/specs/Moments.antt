@@ -82,7 +82,7 @@ module _ {P : Type 0} (table : Table P) (shape : Grid) where
   with_event state seat n None steps = steps
   with_event state seat n (Some event) steps =
       if event.seat == seat then with_turn state.words n event.start
-          (slice_get state.views seat) steps else steps
+      (slice_get state.views seat) steps else steps
 
   -- the call that a seat ends by its turn from this view
   abbrev pub ended_from : List ℕ → ℕ → View P → Option P → List Ended

@@ -96,7 +96,7 @@ module _ {P : Type 0} (table : Table P) (shape : Grid) where
   abbrev pub words_after : List ℕ → View P → P → List ℕ
   words_after words view phase =
       slice_set words (index_of_step view phase)
-          (moved (table.want shape phase view.entry) (finds words view phase))
+      (moved (table.want shape phase view.entry) (finds words view phase))
 
   abbrev pub view_after : List ℕ → View P → P → View P
   view_after words view phase = seen view phase (finds words view phase)

@@ -9,6 +9,6 @@ inside_of-words_of e h =
     let n : length (take e.len e.words) ≡ e.len = length-take-le e.len e.words (omega arith) in
     let p : take e.len e.words ++ replicate (8 - length (take e.len e.words)) 0 ≡ e.words =
     ap (λ (k : ℕ). take e.len e.words ++ replicate (8 - k) 0) n
-        ∙ ap (λ (t : List ℕ). take e.len e.words ++ t) (sym h.rest)
-        ∙ take-append-drop e.len e.words in
+    ∙ ap (λ (t : List ℕ). take e.len e.words ++ t) (sym h.rest)
+    ∙ take-append-drop e.len e.words in
     λ k. record { words = p k; len = n k }

@@ -1,7 +1,6 @@
 use Rattle.std.proofs.Common.{◌≡◌, ◌+◌, ◌-◌, ◌++◌, ◌≤◌, ◌∙◌, ap, arith, length, subst, sym, IsPermutation, List}
 use Rattle.std.specs.List.{All}
 use Rattle.cursor_word.specs.Cursor.{low, place_span}
-
 use Rattle.rail.specs.Items.{IsRising, places}
 use Rattle.rail.specs.Outcome.{DropOutcome, IsAccepted}
 use Rattle.drop_core.specs.declared.phase.DropPhase.{DropPhase}
