@@ -52,7 +52,8 @@ pub record HasSpans (plan : List Piece) (texts : List (List ℕ)) (ticks : Optio
   pub are_readings : AreReadings ticks readings (2 * length drawn + 2)
   pub spans : spans_by worker entries ≡ spans_of plan texts worker drawn readings
 
--- the entries that the seats of a run made, where its workers counted these pieces, each by its hand
+-- the entries that the seats of a run made, where its workers counted these pieces, each by its
+-- hand
 -- of the clock
 pub record RunMakes (made : List Placed) (drawn : List (List ℕ)) (workers : ℕ)
     (plan : List Piece) (texts : List (List ℕ)) (clock : ℕ → Option Ticks) : Type 0 where
