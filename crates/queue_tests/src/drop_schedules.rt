@@ -1,8 +1,9 @@
 //! Worked schedules of the queue that drops its oldest entries, each step with what it finds.
 use crate::schedules::{
-    X, Y, at, ends, moved, put, put_busy, put_ok, steps, take_busy, take_ok, unfinished, whole,
+    X, Y, at, empty, ends, moved, put, put_busy, put_ok, steps, take_busy, take_ok, unfinished,
+    whole,
 };
-use bench::{after, empty, overrun};
+use bench::{after, overrun};
 use cursor_word::Shape;
 use drop_core::{Answer, Event, Start, drop_run};
 use rail::{Entry, Take};
@@ -10,6 +11,7 @@ use std::test::Fail;
 
 mod bench;
 mod random;
+mod stopped;
 
 // A put of an entry of six such words.
 fn put_six(word: u64) -> Start {
@@ -120,42 +122,6 @@ fn a_put_stopped_before_its_commit(rt: HostRuntime) -> Result<(), Fail> {
         ],
     )?;
     bench.has_words(&rt, &[(0, 3), (1, 2), (2, at(2, 1)), (3, at(2, 0))]);
-    Ok(())
-}
-
-#[test]
-fn a_stopped_put_holds_up_its_block(rt: HostRuntime) -> Result<(), Fail> {
-    let late = put_busy(moved((2, 1), (3, 1)));
-    let unfinished_before = put_busy(unfinished(2, (3, 1), (2, 0)));
-    // how far a put comes before another seat's put, take and put, and what these four are answered
-    let lines = [
-        (1, put_ok(0), take_ok(0), put_ok(1), late),
-        (2, put_ok(0), take_ok(0), put_ok(1), late),
-        (3, put_ok(1), empty(0), unfinished_before, put_ok(0)),
-        (4, put_ok(1), empty(0), unfinished_before, put_ok(0)),
-        (5, put_ok(1), take_ok(0), put_ok(2), put_ok(0)),
-    ];
-    let found = [2, at(2, 0), at(2, 0), 7, at(2, 0)];
-    for (count, first, taken, second, stopped) in lines {
-        let done = found.get(..count).unwrap_or(&[]);
-        let begun = if count < 5 {
-            steps(X, put(7), done)
-        } else {
-            ends(X, put(7), done, stopped)
-        };
-        after(
-            &rt,
-            rt.alloc(),
-            (2, 1, 1, 2),
-            &[
-                begun,
-                whole(Y, put(8), first),
-                whole(Y, Start::Take, taken),
-                whole(Y, put(9), second),
-                whole(X, Start::Go, stopped),
-            ],
-        )?;
-    }
     Ok(())
 }
 

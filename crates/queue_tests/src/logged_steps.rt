@@ -3,7 +3,7 @@ ghost use Rattle.std.specs.Prelude.{◌≡◌, ◌<◌};
 
 use std::test::Fail;
 use std::thread::join;
-use step_log::{StepRule, Told, WordSeat, Words};
+use step_log::{StepFact, StepRule, WordSeat, Words};
 
 /// A rule that allows every step.
 pub struct Anything;
@@ -23,7 +23,7 @@ impl StepRule for Anything {
 /// What a step tells under it.
 pub struct Nothing;
 
-impl Told<Anything> for Nothing {
+impl StepFact<Anything> for Nothing {
     ghost then = { λ _ _ _. Unit {0} };
 }
 

@@ -1,7 +1,7 @@
 //! The queue that drops its oldest entries, stepped by hand.
 ghost use Rattle.std.specs.Prelude.{◌≡◌};
 
-use crate::schedules::{MOST_STEPS, Part, cursor, is_wide};
+use crate::schedules::{MOST_STEPS, Part, are_apart, cursor, is_wide};
 use cursor_word::Shape;
 use drop_core::{Answer, DropState, Event, Start};
 use rail::{Placed, Take};
@@ -53,6 +53,13 @@ impl Bench {
         Ok(())
     }
 
+    /// The rest of a seat's call.
+    pub fn finish(&mut self, rt: &impl Abort, seat: u64) -> Result<(), AllocError> {
+        assert!(rt; seat < self.shape.seats());
+        assert!(rt; self.state.made(seat).len() < 1000);
+        self.state.finish(seat)
+    }
+
     pub fn trail(&self, rt: &impl Abort, seat: u64) -> &[u64] {
         assert!(rt; seat < self.shape.seats());
         self.state.trail(seat)
@@ -72,6 +79,17 @@ impl Bench {
         assert!(rt; seat < self.shape.seats());
         let taken = self.state.taken(seat);
         taken.get(taken.len().wrapping_sub(1)).copied()
+    }
+
+    /// Each place that was made stands once, and each taken one at most once.
+    pub fn names_no_place_twice(&self, rt: &impl Abort) {
+        for seat in 0..self.shape.seats() {
+            for other in 0..self.shape.seats() {
+                let same = seat == other;
+                assert!(rt; are_apart(self.state.made(seat), self.state.made(other), same));
+                assert!(rt; are_apart(self.state.taken(seat), self.state.taken(other), same));
+            }
+        }
     }
 
     /// A word of the table.
@@ -101,10 +119,6 @@ pub fn after(
         bench.part(rt, part)?;
     }
     Ok(bench)
-}
-
-pub fn empty(place: u64) -> Answer {
-    Answer::Take(Take::Empty { place })
 }
 
 pub fn overrun(place: u64, now: (u64, u64)) -> Answer {
