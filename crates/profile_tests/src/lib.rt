@@ -4,6 +4,10 @@
 #[cfg(test)]
 mod command;
 #[cfg(test)]
+mod hands;
+#[cfg(test)]
+mod long_traces;
+#[cfg(test)]
 mod options;
 #[cfg(test)]
 mod outside;
@@ -11,6 +15,8 @@ mod outside;
 mod reading;
 #[cfg(test)]
 mod recorder;
+#[cfg(test)]
+mod scripted;
 #[cfg(test)]
 mod spellings;
 #[cfg(test)]

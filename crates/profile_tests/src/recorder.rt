@@ -1,6 +1,7 @@
 //! Noting spans in a queue that fills.
 ghost use Rattle.std.specs.Prelude.{◌≡◌, ◌≤◌, [], length, OnOk};
 
+use crate::scripted::{Says, Script, Scripted};
 use cursor_word::Shape;
 use rail::{Batch, Rail};
 use solo_rail::SoloRetry;
@@ -79,6 +80,39 @@ fn a_full_queue_is_helped_and_then_noted_in(rt: HostRuntime) -> Result<(), Fail>
     for (place, item) in (0..5).zip(items) {
         assert_eq!(rt; item.place, place);
         assert_eq!(rt; item.words.words(), encode(&span_of(place)).as_slice());
+    }
+    Ok(())
+}
+
+#[test]
+fn takes_once_where_it_is_full_and_never_where_it_is_busy(rt: HostRuntime) -> Result<(), Fail> {
+    let alloc = rt.alloc();
+    // what the puts answer, the last first, and how many puts and takes there are
+    let cases: [(&[Says], u64, u64); 4] = [
+        (&[Says::Ok], 1, 0),
+        (&[Says::Ok, Says::Busy, Says::Busy], 3, 0),
+        (&[Says::Ok, Says::Full], 2, 1),
+        (
+            &[Says::Ok, Says::Busy, Says::Full, Says::Busy, Says::Full],
+            5,
+            2,
+        ),
+    ];
+    for (says, puts, takes) in cases {
+        let rail = Scripted {
+            shape: Shape::new(2, 2, 8, 1)?,
+        };
+        let mut seat = Script {
+            says: Vec::from_slice(alloc, says)?,
+            made: None,
+            puts: 0,
+            takes: 0,
+            last: None,
+        };
+        let mut batch = Batch::new(alloc);
+        note_span(&rt, alloc, &rail, &mut seat, &mut batch, &span_of(0))?;
+        assert_eq!(rt; (seat.puts, seat.takes), (puts, takes));
+        assert_eq!(rt; batch.len(), 0);
     }
     Ok(())
 }
