@@ -1,7 +1,7 @@
 #!/usr/bin/env bash
 # Times entries of six words through the queues, beside the same loops over the kit's own queue of 512 entries, and prints nanoseconds an item and ratios:
-# a put and a take by one thread, one producer and one taker, and four producers and one taker. The number of blocks of 64 entries is the one argument, 8 if
-# it is left out.
+# a put and a take by one thread, one producer and one taker, four producers and one taker, and puts that overwrite the oldest entries by one thread and by
+# four. The number of blocks of 64 entries is the one argument, 8 if it is left out.
 set -eu
 top=$(cd "$(dirname "$0")/.." && pwd)
 cd "$top/crates/queue_bench"

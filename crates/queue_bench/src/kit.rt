@@ -56,6 +56,44 @@ pub fn kit_pass<R: Threads + Wait + Sync>(
     kept.into_inner()
 }
 
+/// Pushes so many entries into a queue, which overwrites its oldest one where it is full, and answers how many those and what it holds are together.
+pub fn kit_overwrites(rt: &impl Wait, queue: &ArrayQueue<[u64; 6]>, times: u64) -> u64 {
+    kit_overwrite(rt, queue, times).wrapping_add(queue.len(rt) as u64)
+}
+
+fn kit_overwrite(rt: &impl Wait, queue: &ArrayQueue<[u64; 6]>, times: u64) -> u64 {
+    let mut overwritten = 0u64;
+    for turn in 0..times {
+        let oldest = queue.force_push(rt, entry_of(turn));
+        overwritten = overwritten.wrapping_add(u64::from(oldest.is_some()));
+    }
+    overwritten
+}
+
+/// The same by so many threads.
+pub fn kit_overwrite_pass<R: Threads + Wait + Sync>(
+    rt: &R,
+    queue: &ArrayQueue<[u64; 6]>,
+    producers: u64,
+    each: u64,
+) -> u64
+    requires { (0 < producers) × (producers ≤ 255) }
+{
+    let overwritten = AtomicU64::new(0);
+    let sum = &overwritten;
+    thread::for_each_mut(
+        rt,
+        &mut [0u8; 256][..producers as usize],
+        producers as usize,
+        &|_index, _seat: &mut u8|
+            requires { IsSync R.row }
+        {
+            sum.fetch_add(kit_overwrite(rt, queue, each), Ordering::SeqCst);
+        },
+    );
+    overwritten.into_inner().wrapping_add(queue.len(rt) as u64)
+}
+
 fn kit_push_all(rt: &impl Wait, queue: &ArrayQueue<[u64; 6]>, times: u64) {
     for turn in 0..times {
         kit_push(rt, queue, entry_of(turn));

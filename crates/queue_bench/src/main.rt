@@ -1,5 +1,5 @@
-//! Passes entries of six words through the queues, beside the kit's own queue: a put and a take by one thread, one producer and one taker, and four
-//! producers and one taker. The argument `time` prints what it cost.
+//! Passes entries of six words through the queues, beside the kit's own queue: a put and a take by one thread, one producer and one taker, four producers
+//! and one taker, and overwriting puts by one thread and by four. The argument `time` prints what it cost.
 #![tactic(auto)]
 
 mod kit;
@@ -9,7 +9,7 @@ mod report;
 mod rounds;
 
 use report::print_costs;
-use rounds::{Work, pair_costs, pass_costs};
+use rounds::{Work, overwrite_costs, overwrite_pass_costs, pair_costs, pass_costs};
 use std::env;
 
 /// How much is done in a run that is not timed, and in one that is. Rounds of one thread are short, so that some of them are not broken off by other work.
@@ -41,11 +41,21 @@ fn main(rt: HostRuntime) -> Result<(), anyhow::Error> {
     let pair = pair_costs(&rt, alloc, &work)?;
     let one = pass_costs(&rt, alloc, &work, 1)?;
     let four = pass_costs(&rt, alloc, &work, 4)?;
+    let alone = overwrite_costs(&rt, alloc, &work)?;
+    let beside = overwrite_pass_costs(&rt, alloc, &work, 4)?;
     println!(rt; "kept {} {} {}", pair.kept, one.kept, four.kept)?;
+    println!(rt; "overwritten {} {}", alone.kept, beside.kept)?;
     if is_timed {
         print_costs(&rt, "a put and a take", &pair, work.pairs)?;
         print_costs(&rt, "one producer", &one, work.each)?;
         print_costs(&rt, "four producers", &four, work.each.saturating_mul(4))?;
+        print_costs(&rt, "overwriting put", &alone, work.pairs)?;
+        print_costs(
+            &rt,
+            "four overwriting producers",
+            &beside,
+            work.each.saturating_mul(4),
+        )?;
     }
     Ok(())
 }

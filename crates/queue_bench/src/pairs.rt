@@ -1,4 +1,4 @@
-//! A put and a take through one seat, again and again.
+//! A put and a take through one seat, or a put alone, again and again.
 ghost use Rattle.std.specs.Prelude.{◌≡◌, ◌+◌, ◌≤◌, ◌<◌, length};
 ghost use Rattle.cursor_word.specs.Cursor.{most_puts};
 
@@ -33,6 +33,20 @@ fn pair<Q: Rail>(rail: &Q, seat: &mut Q::Seat, turn: u64) -> bool
     let put = rail.put(seat, &entry);
     let take = rail.take(seat, &mut out);
     matches!((put, take), (Put::Ok(_), Take::Ok(_))) && out == entry
+}
+
+/// Puts an entry so many times, and answers how many were accepted.
+pub fn puts<Q: Rail>(rail: &Q, seat: &mut Q::Seat, times: u64) -> u64
+    requires puts { Q.PutsInto rail.now seat.old }
+    requires width { (Q.shape_of rail.now).width ≡ 6 }
+    requires room { length (Q.made seat.old) + times ≤ most_puts (Q.shape_of rail.now) }
+{
+    let mut kept = 0;
+    for turn in 0..times {
+        let put = rail.put(seat, &entry_of(turn));
+        kept += u64::from(matches!(put, Put::Ok(_)));
+    }
+    kept
 }
 
 /// The entry of a turn.

@@ -1,5 +1,6 @@
-//! Entries through one `RetryRail` by several threads: every seat but the last puts, and the last takes.
-ghost use Rattle.std.specs.Prelude.{◌≡◌, ◌+◌, ◌<◌, ◌≤◌, All, length};
+//! Entries through one queue by several threads: through a `RetryRail`, where every seat but the last puts and the last takes, and into any queue, where
+//! every seat puts.
+ghost use Rattle.std.specs.Prelude.{◌≡◌, ◌+◌, ◌<◌, ◌≤◌, [], All, length};
 ghost use Rattle.cursor_word.specs.Cursor.{most_puts};
 ghost use Rattle.call_steps.specs.Queue.{IsFresh, IsSeatOf};
 ghost use denote.Param.Send.{IsSync};
@@ -48,10 +49,44 @@ pub fn pass<R: Threads + Wait + Sync>(
     kept.into_inner()
 }
 
-fn put_all(rt: &impl Wait, queue: &RetryRail, seat: &mut RetrySeat, times: u64)
-    requires seat { IsSeatOf queue.now seat.old }
-    requires width { queue.now.shape.width ≡ 6 }
-    requires room { length seat.old.view.made + times ≤ most_puts queue.now.shape }
+/// Puts `each` entries by each seat, each seat in a thread of its own, and answers how many were accepted.
+pub fn put_by_all<R: Threads + Wait + Sync, Q: Rail>(
+    rt: &R,
+    queue: &Q,
+    seats: &mut [Q::Seat],
+    each: u64,
+) -> u64
+    requires puts { All (Q.PutsInto queue.now) seats.old }
+    requires fresh { All (λ seat. Q.made seat ≡ []) seats.old }
+    requires width { (Q.shape_of queue.now).width ≡ 6 }
+    requires each { each ≤ 1000000 }
+{
+    let threads = seats.len();
+    if threads == 0 {
+        return 0;
+    }
+    thread::for_each_mut(
+        rt,
+        &mut *seats,
+        threads,
+        &|_index, seat: &mut Q::Seat|
+            requires { IsSync R.row × Q.PutsInto queue.now seat.now × (Q.made seat.now ≡ []) × ((Q.shape_of queue.now).width ≡ 6) × (each ≤ 1000000) }
+        {
+            let _most = queue.shape().most_puts();
+            put_all(rt, queue, seat, each);
+        },
+    );
+    let mut accepted = 0u64;
+    for seat in seats {
+        accepted = accepted.wrapping_add(Q::puts(seat));
+    }
+    accepted
+}
+
+fn put_all<Q: Rail>(rt: &impl Wait, queue: &Q, seat: &mut Q::Seat, times: u64)
+    requires seat { Q.PutsInto queue.now seat.old }
+    requires width { (Q.shape_of queue.now).width ≡ 6 }
+    requires room { length (Q.made seat.old) + times ≤ most_puts (Q.shape_of queue.now) }
 {
     for turn in 0..times {
         put_one(rt, queue, seat, turn);
@@ -59,12 +94,12 @@ fn put_all(rt: &impl Wait, queue: &RetryRail, seat: &mut RetrySeat, times: u64)
 }
 
 // Tries until the entry is accepted.
-fn put_one(rt: &impl Wait, queue: &RetryRail, seat: &mut RetrySeat, turn: u64)
-    requires seat { IsSeatOf queue.now seat.old }
-    requires width { queue.now.shape.width ≡ 6 }
-    requires room { length seat.old.view.made < most_puts queue.now.shape }
-    ensures seat { IsSeatOf queue.now seat.new }
-    ensures one { length seat.new.view.made ≤ length seat.old.view.made + 1 }
+fn put_one<Q: Rail>(rt: &impl Wait, queue: &Q, seat: &mut Q::Seat, turn: u64)
+    requires seat { Q.PutsInto queue.now seat.old }
+    requires width { (Q.shape_of queue.now).width ≡ 6 }
+    requires room { length (Q.made seat.old) < most_puts (Q.shape_of queue.now) }
+    ensures seat { Q.PutsInto queue.now seat.new }
+    ensures one { length (Q.made seat.new) ≤ length (Q.made seat.old) + 1 }
 {
     let entry = entry_of(turn);
     let backoff = Backoff::new();

@@ -8,6 +8,7 @@ pub fn print_costs<R: Print>(rt: &R, what: &str, costs: &Costs, items: u64) -> i
         ("kit", costs.kit),
         ("solo", costs.solo),
         ("retry", costs.retry),
+        ("drop", costs.drop),
     ] {
         if cost < u128::MAX {
             let each = cost / u128::from(items.max(1));

@@ -1,12 +1,13 @@
 //! Rounds of all queues one after the other.
 ghost use Rattle.std.specs.Prelude.{◌≡◌, ◌≤◌, IfOk};
 
-use crate::kit::{kit_pairs, kit_pass};
-use crate::pairs::pairs;
-use crate::passes::pass;
+use crate::kit::{kit_overwrite_pass, kit_overwrites, kit_pairs, kit_pass};
+use crate::pairs::{pairs, puts};
+use crate::passes::{pass, put_by_all};
 use anyhow::anyhow;
 use crossbeam_queue::ArrayQueue;
 use cursor_word::Shape;
+use drop_rail::DropRail;
 use retry_rail::RetryRail;
 use solo_rail::SoloRetry;
 use std::alloc::Global;
@@ -31,6 +32,7 @@ pub struct Costs {
     pub kit: u128,
     pub solo: u128,
     pub retry: u128,
+    pub drop: u128,
     pub kept: u64,
 }
 
@@ -40,6 +42,7 @@ impl Costs {
             kit: u128::MAX,
             solo: u128::MAX,
             retry: u128::MAX,
+            drop: u128::MAX,
             kept: 0,
         }
     }
@@ -163,5 +166,98 @@ fn retry_pass_round<R: Clock + Threads + Wait + Sync>(
     let (rail, mut seats) = RetryRail::make(alloc, shape)?;
     let start = Instant::now(rt)?;
     let kept = pass(rt, &rail, seats.as_mut_slice(), work.each);
+    Ok((kept, start.elapsed(rt)?.as_nanos()))
+}
+
+/// Puts by one thread into full queues that overwrite their oldest entries.
+pub fn overwrite_costs<R: Clock + Wait>(
+    rt: &R,
+    alloc: Global,
+    work: &Work,
+) -> Result<Costs, anyhow::Error> {
+    let mut least = Costs::none();
+    for _ in 0..work.pair_rounds {
+        let (kept, cost) = kit_overwrite_round(rt, alloc, work)?;
+        least.add(kept);
+        least.kit = least.kit.min(cost);
+        let (kept, cost) = drop_overwrite_round(rt, alloc, work)?;
+        least.add(kept);
+        least.drop = least.drop.min(cost);
+    }
+    Ok(least)
+}
+
+fn kit_overwrite_round<R: Clock + Wait>(
+    rt: &R,
+    alloc: Global,
+    work: &Work,
+) -> Result<(u64, u128), anyhow::Error> {
+    let queue = ArrayQueue::new(alloc, 512)?;
+    let start = Instant::now(rt)?;
+    let kept = kit_overwrites(rt, &queue, work.pairs);
+    Ok((kept, start.elapsed(rt)?.as_nanos()))
+}
+
+fn drop_overwrite_round<R: Clock>(
+    rt: &R,
+    alloc: Global,
+    work: &Work,
+) -> Result<(u64, u128), anyhow::Error> {
+    let shape = shape_of(work.blocks, 1)?;
+    let _most = shape.most_puts();
+    let (rail, mut seats) = DropRail::make(alloc, shape)?;
+    let Some(mut seat) = seats.pop() else {
+        return Ok((0, 0));
+    };
+    let start = Instant::now(rt)?;
+    let kept = puts(&rail, &mut seat, work.pairs);
+    Ok((kept, start.elapsed(rt)?.as_nanos()))
+}
+
+/// Puts by so many producers into full queues that overwrite their oldest entries.
+pub fn overwrite_pass_costs<R: Clock + Threads + Wait + Sync>(
+    rt: &R,
+    alloc: Global,
+    work: &Work,
+    producers: u64,
+) -> Result<Costs, anyhow::Error>
+    requires { (0 < producers) × (producers ≤ 255) }
+{
+    let mut least = Costs::none();
+    for _ in 0..work.pass_rounds {
+        let (kept, cost) = kit_overwrite_pass_round(rt, alloc, work, producers)?;
+        least.add(kept);
+        least.kit = least.kit.min(cost);
+        let (kept, cost) = drop_overwrite_pass_round(rt, alloc, work, producers)?;
+        least.add(kept);
+        least.drop = least.drop.min(cost);
+    }
+    Ok(least)
+}
+
+fn kit_overwrite_pass_round<R: Clock + Threads + Wait + Sync>(
+    rt: &R,
+    alloc: Global,
+    work: &Work,
+    producers: u64,
+) -> Result<(u64, u128), anyhow::Error>
+    requires { (0 < producers) × (producers ≤ 255) }
+{
+    let queue = ArrayQueue::new(alloc, 512)?;
+    let start = Instant::now(rt)?;
+    let kept = kit_overwrite_pass(rt, &queue, producers, work.each);
+    Ok((kept, start.elapsed(rt)?.as_nanos()))
+}
+
+fn drop_overwrite_pass_round<R: Clock + Threads + Wait + Sync>(
+    rt: &R,
+    alloc: Global,
+    work: &Work,
+    producers: u64,
+) -> Result<(u64, u128), anyhow::Error> {
+    let shape = shape_of(work.blocks, producers)?;
+    let (rail, mut seats) = DropRail::make(alloc, shape)?;
+    let start = Instant::now(rt)?;
+    let kept = put_by_all(rt, &rail, seats.as_mut_slice(), work.each);
     Ok((kept, start.elapsed(rt)?.as_nanos()))
 }

@@ -1,2 +1,3 @@
 pub mod ListSeats
+pub mod Numbers
 pub mod OnlySeat

@@ -25,6 +25,8 @@ mod passage;
 mod schedules;
 #[cfg(test)]
 mod sharing;
+#[cfg(test)]
+mod two_seats;
 
 pub use list_rail::{ListDone, ListRail, ListSeat};
 pub use passage::{Passed, pass_all, put_all, put_kept, take_all, take_kept};

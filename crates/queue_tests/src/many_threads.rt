@@ -1,15 +1,13 @@
-//! The queue for many threads, by one of them and by four.
-ghost use Rattle.std.specs.Prelude.{◌≡◌, ℕ, ◌<◌, length, map, slice_index_or};
+//! Queues for many threads, by as many threads as fit.
+ghost use Rattle.std.specs.Prelude.{◌≡◌, ℕ, ◌<◌, IsPermutation, length, map, slice_index_or};
 ghost use Rattle.std.specs.List.{All};
-ghost use Rattle.bbq_core.specs.declared.phase.Phase.{Phase};
-ghost use Rattle.call_steps.specs.Queue.{IsSeatOf, Seated};
+ghost use Rattle.rail.specs.Outcome.{numbers_below};
 
-use crate::calls::left_of;
-use cursor_word::{Cursor, Shape};
-use rail::{Answer, Put, Rail, Take};
-use retry_rail::{RetryRail, RetrySeat};
+use cursor_word::Shape;
+use drop_rail::DropRail;
+use rail::{Batch, Put, Rail, Take};
+use retry_rail::RetryRail;
 use std::alloc::{AllocError, Global};
-use std::process::Abort;
 use std::sync::atomic::{AtomicU64, Ordering};
 use std::test::Fail;
 use std::thread;
@@ -20,91 +18,15 @@ const MANY: u64 = 1000000;
 
 const PLACES: u64 = 80000;
 
-// One call of the first seat: a put of a word, or a take.
-fn answer_of(queue: &RetryRail, seats: &mut [RetrySeat], word: Option<u64>) -> Answer
-    requires some { 0 < length seats.old }
-    requires own { All (IsSeatOf queue.now) seats.old }
-    requires width { queue.now.shape.width ≡ 1 }
-    ensures own { All (IsSeatOf queue.now) seats.new }
-    ensures numbers { map (λ (s : Seated Phase). s.number) seats.new ≡ map (λ (s : Seated Phase). s.number) seats.old }
-{
-    let seat = &mut seats[0];
-    match word {
-        Some(word) if RetryRail::puts(seat) < queue.shape().most_puts() => Answer::Put(queue.put(
-            seat,
-            &[word],
-        )),
-        _ => Answer::Take(queue.take(seat, &mut [0])),
-    }
-}
+const THREADS: usize = 4;
 
-fn full(head: u64, block: u64, offset: u64) -> Answer {
-    Answer::Put(Put::Full {
-        head,
-        consumed: Cursor { block, offset },
-    })
-}
-
-// The first of two seats does these calls, and the queue is closed.
-fn answers_so(
-    rt: &impl Abort,
-    alloc: Global,
-    calls: &[(Option<u64>, Answer)],
-    accepted: u64,
-    left: &[(u64, u64)],
-) -> Result<(), Fail> {
-    let shape = Shape::new(2, 2, 1, 2)?;
-    let (queue, mut seats) = RetryRail::make(alloc, shape)?;
-    for (word, want) in calls {
-        assert_eq!(rt; answer_of(&queue, seats.as_mut_slice(), *word), *want);
-    }
-    let Ok(done) = queue.close(alloc, seats) else {
-        panic!(rt; "the queue wasn't closed");
-    };
-    assert_eq!(rt; RetryRail::accepted(&done), accepted);
-    let found = left_of::<RetryRail>(alloc, &done)?;
-    assert_eq!(rt; found.as_slice(), left);
-    Ok(())
-}
-
-#[test]
-fn one_of_two_seats_fills_the_queue_and_closes_it(rt: HostRuntime) -> Result<(), Fail> {
-    let calls = [
-        (Some(10), Answer::Put(Put::Ok(0))),
-        (Some(11), Answer::Put(Put::Ok(1))),
-        (Some(12), Answer::Put(Put::Ok(2))),
-        (Some(13), Answer::Put(Put::Ok(3))),
-        (Some(14), full(3, 2, 0)),
-        (None, Answer::Take(Take::Ok(0))),
-        (Some(14), full(3, 2, 1)),
-        (None, Answer::Take(Take::Ok(1))),
-        (Some(14), Answer::Put(Put::Ok(4))),
-    ];
-    let left = [(2, 12), (3, 13), (4, 14)];
-    answers_so(&rt, rt.alloc(), calls.as_slice(), 5, left.as_slice())
-}
-
-#[test]
-fn takes_of_one_of_two_seats_end_at_the_next_place(rt: HostRuntime) -> Result<(), Fail> {
-    let calls = [
-        (None, Answer::Take(Take::Empty { place: 0 })),
-        (Some(10), Answer::Put(Put::Ok(0))),
-        (Some(11), Answer::Put(Put::Ok(1))),
-        (Some(12), Answer::Put(Put::Ok(2))),
-        (None, Answer::Take(Take::Ok(0))),
-        (None, Answer::Take(Take::Ok(1))),
-        (None, Answer::Take(Take::Ok(2))),
-        (None, Answer::Take(Take::Empty { place: 3 })),
-    ];
-    answers_so(&rt, rt.alloc(), calls.as_slice(), 3, &[])
-}
-
-// How many calls were done, found the queue full or empty, and found it busy.
+// How many calls were done, found the queue full or empty, found it busy, and were overrun.
 #[derive(Drop)]
 struct Tally {
     done: AtomicU64,
     refused: AtomicU64,
     busy: AtomicU64,
+    overrun: AtomicU64,
 }
 
 impl Tally {
@@ -113,6 +35,7 @@ impl Tally {
             done: AtomicU64::new(0),
             refused: AtomicU64::new(0),
             busy: AtomicU64::new(0),
+            overrun: AtomicU64::new(0),
         }
     }
 
@@ -121,6 +44,7 @@ impl Tally {
             .load(Ordering::SeqCst)
             .wrapping_add(self.refused.load(Ordering::SeqCst))
             .wrapping_add(self.busy.load(Ordering::SeqCst))
+            .wrapping_add(self.overrun.load(Ordering::SeqCst))
     }
 }
 
@@ -167,27 +91,52 @@ impl Marks {
         }
     }
 
-    // Every try of every producer and taker was answered, and none as overrun.
-    fn are_all(&self, case: &Case) -> bool {
-        self.puts.sum() == case.tries.wrapping_mul(case.producers)
-            && self.takes.sum() == case.tries.wrapping_mul(case.takers)
+    fn note_taken(&self, place: u64, words: [u64; 2]) {
+        self.note(self.taken.as_slice(), place, words);
     }
 
-    // All that was put below a place was taken once, with its words, and each seat's entries stand in its order.
-    fn are_whole(&self, accepted: u64, seats: u64) -> bool {
+    // Each entry that is left lies at or above this place, and counts as one that is taken.
+    fn are_left(&self, left: &Batch, from: u64) -> bool {
+        let mut live = true;
+        for item in left.as_slice() {
+            live = live && item.place >= from;
+            if let [first, second] = item.words.words() {
+                self.note_taken(item.place, [*first, *second]);
+            }
+        }
+        live
+    }
+
+    // Every try of every producer and taker was answered, and as this kind of queue answers.
+    fn are_all<Q: Rail>(&self, case: &Case) -> bool {
+        let (puts, takes) = (&self.puts, &self.takes);
+        let never = if Q::DROPS {
+            &puts.refused
+        } else {
+            &takes.overrun
+        };
+        puts.sum() == case.tries.wrapping_mul(case.producers)
+            && takes.sum() == case.tries.wrapping_mul(case.takers)
+            && never.load(Ordering::SeqCst) == 0
+    }
+
+    // Each place below `accepted` was put once, and taken once or not, but taken where it is not below `from`, with its words; and each seat's entries stand in its order.
+    fn are_whole(&self, accepted: u64, from: u64) -> bool {
         let mut whole = self.twice.load(Ordering::SeqCst) == 0;
         let mut last = [0u64; 8];
         for place in 0..self.put.len() {
             let put = self.put[place].load(Ordering::SeqCst);
+            let taken = self.taken_at(place);
+            let lost = taken == 0 && (place as u64) < from;
             whole = whole && (put != 0) == ((place as u64) < accepted);
-            whole = whole && put == self.taken_at(place);
+            whole = whole && (put == taken || lost);
             let seat = (put / MANY) as usize;
             if put != 0 && seat < 8 {
                 whole = whole && last[seat] < put;
                 last[seat] = put;
             }
         }
-        whole && seats <= 8
+        whole
     }
 }
 
@@ -196,19 +145,32 @@ struct Case {
     blocks: u64,
     size: u64,
     seats: u64,
-    threads: usize,
     producers: u64,
     takers: u64,
     tries: u64,
 }
 
-fn put_once(queue: &RetryRail, seat: &mut RetrySeat, marks: &Marks, words: [u64; 2]) -> bool
-    requires own { IsSeatOf queue.now seat.old }
-    requires width { queue.now.shape.width ≡ 2 }
-    ensures own { IsSeatOf queue.now seat.new }
-    ensures number { seat.new.number ≡ seat.old.number }
+impl Case {
+    // The first place of which nothing may be lost, where so many entries were accepted.
+    fn kept_from<Q: Rail>(&self, accepted: u64) -> u64 {
+        if !Q::DROPS {
+            return 0;
+        }
+        let last = accepted.wrapping_add(self.size).saturating_sub(1);
+        let opened = last.checked_div(self.size).unwrap_or(0);
+        opened.saturating_sub(self.blocks).wrapping_mul(self.size)
+    }
+}
+
+fn put_once<Q: Rail>(queue: &Q, seat: &mut Q::Seat, marks: &Marks, words: [u64; 2]) -> bool
+    requires puts { Q.PutsInto queue.now seat.old }
+    requires takes { Q.TakesFrom queue.now seat.old }
+    requires width { (Q.shape_of queue.now).width ≡ 2 }
+    ensures puts { Q.PutsInto queue.now seat.new }
+    ensures takes { Q.TakesFrom queue.now seat.new }
+    ensures number { Q.number_of seat.new ≡ Q.number_of seat.old }
 {
-    if RetryRail::puts(seat) >= queue.shape().most_puts() {
+    if Q::puts(seat) >= queue.shape().most_puts() {
         return false;
     }
     match queue.put(seat, words.as_slice()) {
@@ -223,30 +185,34 @@ fn put_once(queue: &RetryRail, seat: &mut RetrySeat, marks: &Marks, words: [u64;
     false
 }
 
-fn take_once(queue: &RetryRail, seat: &mut RetrySeat, marks: &Marks)
-    requires own { IsSeatOf queue.now seat.old }
-    requires width { queue.now.shape.width ≡ 2 }
-    ensures own { IsSeatOf queue.now seat.new }
-    ensures number { seat.new.number ≡ seat.old.number }
+fn take_once<Q: Rail>(queue: &Q, seat: &mut Q::Seat, marks: &Marks)
+    requires puts { Q.PutsInto queue.now seat.old }
+    requires takes { Q.TakesFrom queue.now seat.old }
+    requires width { (Q.shape_of queue.now).width ≡ 2 }
+    ensures puts { Q.PutsInto queue.now seat.new }
+    ensures takes { Q.TakesFrom queue.now seat.new }
+    ensures number { Q.number_of seat.new ≡ Q.number_of seat.old }
 {
     let mut words = [0; 2];
     match queue.take(seat, words.as_mut_slice()) {
         Take::Ok(place) => {
-            marks.note(marks.taken.as_slice(), place, words);
+            marks.note_taken(place, words);
             one_more(&marks.takes.done);
         }
         Take::Empty { .. } => one_more(&marks.takes.refused),
         Take::Busy(_) => one_more(&marks.takes.busy),
-        Take::Overrun { .. } => {}
+        Take::Overrun { .. } => one_more(&marks.takes.overrun),
     }
 }
 
 // Tries as often as the case says, each time a put and then a take, where this seat does the one and the other.
-fn try_often(queue: &RetryRail, seat: &mut RetrySeat, marks: &Marks, index: u64, case: &Case)
-    requires own { IsSeatOf queue.now seat.old }
-    requires width { queue.now.shape.width ≡ 2 }
-    ensures own { IsSeatOf queue.now seat.new }
-    ensures number { seat.new.number ≡ seat.old.number }
+fn try_often<Q: Rail>(queue: &Q, seat: &mut Q::Seat, marks: &Marks, index: u64, case: &Case)
+    requires puts { Q.PutsInto queue.now seat.old }
+    requires takes { Q.TakesFrom queue.now seat.old }
+    requires width { (Q.shape_of queue.now).width ≡ 2 }
+    ensures puts { Q.PutsInto queue.now seat.new }
+    ensures takes { Q.TakesFrom queue.now seat.new }
+    ensures number { Q.number_of seat.new ≡ Q.number_of seat.old }
 {
     let mut count = 0u64;
     for _turn in 0..case.tries {
@@ -259,54 +225,60 @@ fn try_often(queue: &RetryRail, seat: &mut RetrySeat, marks: &Marks, index: u64,
     }
 }
 
-fn run_each<R: Threads + Sync>(
+fn run_each<R: Threads + Sync, Q: Rail>(
     rt: &R,
-    queue: &RetryRail,
-    seats: &mut [RetrySeat],
+    queue: &Q,
+    seats: &mut [Q::Seat],
     marks: &Marks,
     case: &Case,
 )
-    requires own { All (IsSeatOf queue.now) seats.old }
-    requires width { queue.now.shape.width ≡ 2 }
-    requires threads { 0 < case.now.threads }
-    ensures own { All (IsSeatOf queue.now) seats.new }
+    requires puts { All (Q.PutsInto queue.now) seats.old }
+    requires takes { All (Q.TakesFrom queue.now) seats.old }
+    requires width { (Q.shape_of queue.now).width ≡ 2 }
+    ensures puts { All (Q.PutsInto queue.now) seats.new }
     ensures long { length seats.new ≡ length seats.old }
-    ensures numbers { (k : ℕ) (d : Seated Phase) → k < length seats.old → (slice_index_or seats.new k d).number ≡ (slice_index_or seats.old k d).number }
+    ensures numbers { (k : ℕ) (d : Q.Seat) → k < length seats.old → Q.number_of (slice_index_or seats.new k d) ≡ Q.number_of (slice_index_or seats.old k d) }
 {
     thread::for_each_mut(
         rt,
         seats,
-        case.threads,
-        &|index, seat: &mut RetrySeat|
-            requires { IsSeatOf queue.now seat.now × (queue.now.shape.width ≡ 2) }
-            ensures { IsSeatOf queue.entry.now seat.exit.now × (seat.exit.now.number ≡ seat.entry.now.number) }
+        THREADS,
+        &|index, seat: &mut Q::Seat|
+            requires { Q.PutsInto queue.now seat.now × Q.TakesFrom queue.now seat.now × ((Q.shape_of queue.now).width ≡ 2) }
+            ensures { Q.PutsInto queue.entry.now seat.exit.now × (Q.number_of seat.exit.now ≡ Q.number_of seat.entry.now) }
         { try_often(queue, seat, marks, index as u64, case) },
     );
 }
 
-fn run_all<R: Threads + Sync>(
+fn run_all<R: Threads + Sync, Q: Rail>(
     rt: &R,
-    queue: &RetryRail,
-    seats: &mut [RetrySeat],
+    queue: &Q,
+    seats: &mut [Q::Seat],
     marks: &Marks,
     case: &Case,
 )
-    requires own { All (IsSeatOf queue.now) seats.old }
-    requires width { queue.now.shape.width ≡ 2 }
-    requires threads { 0 < case.now.threads }
-    ensures own { All (IsSeatOf queue.now) seats.new }
-    ensures numbers { map (λ (s : Seated Phase). s.number) seats.new ≡ map (λ (s : Seated Phase). s.number) seats.old }
+    requires puts { All (Q.PutsInto queue.now) seats.old }
+    requires takes { All (Q.TakesFrom queue.now) seats.old }
+    requires width { (Q.shape_of queue.now).width ≡ 2 }
+    ensures puts { All (Q.PutsInto queue.now) seats.new }
+    ensures numbers { map Q.number_of seats.new ≡ map Q.number_of seats.old }
 {
     run_each(rt, queue, seats, marks, case);
 }
 
-fn passes<R: Threads + Sync>(rt: &R, alloc: Global, case: &Case) -> Result<bool, AllocError>
-    requires { 0 < case.now.threads }
+// The threads of a case run over a queue, which is closed then.
+fn passes<R: Threads + Sync, Q: Rail>(
+    rt: &R,
+    alloc: Global,
+    made: (Q, Vec<Q::Seat>),
+    case: &Case,
+) -> Result<bool, AllocError>
+    requires puts { All (Q.PutsInto made.0) made.1.items }
+    requires takes { All (Q.TakesFrom made.0) made.1.items }
+    requires all { IsPermutation (map Q.number_of made.1.items) (numbers_below (Q.shape_of made.0).seats) }
+    requires width { (Q.shape_of made.0).width ≡ 2 }
 {
-    let Ok(shape) = Shape::new(case.blocks, case.size, 2, case.seats) else {
-        return Ok(false);
-    };
-    let (queue, mut seats) = RetryRail::make(alloc, shape)?;
+    let (queue, mut seats) = made;
     let marks = Marks {
         put: zeros(alloc, PLACES)?,
         taken: zeros(alloc, PLACES)?,
@@ -315,40 +287,60 @@ fn passes<R: Threads + Sync>(rt: &R, alloc: Global, case: &Case) -> Result<bool,
         takes: Tally::none(),
     };
     run_all(rt, &queue, seats.as_mut_slice(), &marks, case);
-    if !marks.are_all(case) {
+    if !marks.are_all::<Q>(case) {
         return Ok(false);
     }
     let Ok(done) = queue.close(alloc, seats) else {
         return Ok(false);
     };
-    let left = RetryRail::left(&done);
-    for index in 0..left.len() {
-        if let Some(item) = left.get(index) {
-            if let [first, second] = item.words.words() {
-                marks.note(marks.taken.as_slice(), item.place, [*first, *second]);
-            }
-        }
-    }
-    Ok(marks.are_whole(RetryRail::accepted(&done), case.seats))
+    let accepted = Q::accepted(&done);
+    let from = case.kept_from::<Q>(accepted);
+    Ok(marks.are_left(Q::left(&done), from) && marks.are_whole(accepted, from))
 }
+
+const CASES: [Case; 3] = [
+    Case {
+        blocks: 2,
+        size: 4,
+        seats: 4,
+        producers: 4,
+        takers: 4,
+        tries: 20000,
+    },
+    Case {
+        blocks: 2,
+        size: 4,
+        seats: 4,
+        producers: 1,
+        takers: 3,
+        tries: 20000,
+    },
+    Case {
+        blocks: 3,
+        size: 1,
+        seats: 8,
+        producers: 8,
+        takers: 8,
+        tries: 10000,
+    },
+];
 
 #[test]
 fn threads_lose_nothing_and_take_nothing_twice(rt: HostRuntime) -> Result<(), Fail> {
-    for (blocks, size, seats, producers, takers, tries) in [
-        (2, 4, 4, 4, 4, 20000),
-        (2, 4, 4, 1, 3, 20000),
-        (3, 1, 8, 8, 8, 10000),
-    ] {
-        let case = Case {
-            blocks,
-            size,
-            seats,
-            threads: 4,
-            producers,
-            takers,
-            tries,
-        };
-        assert!(rt; passes(&rt, rt.alloc(), &case)?);
+    for case in CASES {
+        let shape = Shape::new(case.blocks, case.size, 2, case.seats)?;
+        let made = RetryRail::make(rt.alloc(), shape)?;
+        assert!(rt; passes(&rt, rt.alloc(), made, &case)?);
+    }
+    Ok(())
+}
+
+#[test]
+fn threads_lose_only_what_was_overwritten(rt: HostRuntime) -> Result<(), Fail> {
+    for case in CASES {
+        let shape = Shape::new(case.blocks, case.size, 2, case.seats)?;
+        let made = DropRail::make(rt.alloc(), shape)?;
+        assert!(rt; passes(&rt, rt.alloc(), made, &case)?);
     }
     Ok(())
 }

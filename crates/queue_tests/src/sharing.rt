@@ -2,6 +2,7 @@
 use crate::logged_steps::Anything;
 use claim_table::Claim;
 use cursor_word::Shape;
+use drop_rail::DropRail;
 use retry_rail::RetryRail;
 use solo_rail::SoloRetry;
 use std::test::Fail;
@@ -25,6 +26,9 @@ fn tables_are_shared_and_seats_are_sent(rt: HostRuntime) -> Result<(), Fail> {
     asks_for_shared(&solo);
     asks_for_sent(&solo_seat);
     let (queue, seats) = RetryRail::make(alloc, shape)?;
+    asks_for_shared(&queue);
+    asks_for_sent(&seats);
+    let (queue, seats) = DropRail::make(alloc, shape)?;
     asks_for_shared(&queue);
     asks_for_sent(&seats);
     Ok(())

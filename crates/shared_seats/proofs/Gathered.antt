@@ -1,5 +1,5 @@
 -- How seats are dealt from one and gathered into one.
-use Rattle.std.proofs.Common.{◌≡◌, ℕ, zero, suc, ◌+◌, ◌-◌, ◌<◌, List, [], ◌∷◌, ◌++◌, All, IsPermutation, drop, get_or, length, length-append, map, replicate, take, append_assoc, refl, sym, ap, ◌∙◌, subst, ◌⊎◌, inl, inr, ⊎_elim, arith}
+use Rattle.std.proofs.Common.{◌≡◌, ℕ, zero, suc, ◌+◌, ◌-◌, ◌<◌, List, [], ◌∷◌, ◌++◌, All, IsPermutation, drop, length, length-append, map, replicate, take, append_assoc, refl, sym, ap, ◌∙◌, subst, ◌⊎◌, inl, inr, ⊎_elim, arith}
 use Rattle.std.proofs.Math.ListN.{get_or-append}
 use Rattle.std.proofs.Math.Seq.{get_or-append_seam}
 use Rattle.std.proofs.lemmas.List.{map-append}
@@ -94,11 +94,3 @@ module _ {P : Type 0} (q : Queue) (left : List (Seated P)) (x : Seated P) (seat 
         some_views = (let n = ap length now in let s = g.some_views in omega (arith, length-append vs (x.view ∷ [])));
         own = all_init (IsOf q) left x own';
       }
-
--- seats with the same numbers, one by one
-pub same_numbers : {P : Type 0} (xs ys : List (Seated P)) → length xs ≡ length ys → ((k : ℕ) (d : Seated P) → k < length ys → (get_or xs k d).number ≡ (get_or ys k d).number) → map (λ (s : Seated P). s.number) xs ≡ map (λ (s : Seated P). s.number) ys
-same_numbers {P} [] [] long each = refl
-same_numbers {P} [] (y ∷ ys) long each = absurd (omega arith)
-same_numbers {P} (x ∷ xs) [] long each = absurd (omega arith)
-same_numbers {P} (x ∷ xs) (y ∷ ys) long each = let first = each 0 y (omega arith) in
-    ap (λ (n : ℕ). n ∷ map (λ (s : Seated P). s.number) xs) first ∙ ap (λ (ns : List ℕ). y.number ∷ ns) (same_numbers xs ys (omega arith) (λ k d lt. each (suc k) d (omega arith)))

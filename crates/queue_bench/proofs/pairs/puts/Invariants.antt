@@ -1,0 +1,5 @@
+use Rattle.std.proofs.Common.{◌+◌, ◌≤◌, length}
+use Rattle.queue_bench.proofs.pairs.puts.Given as goal
+
+abbrev pub invariant-loop-turn : goal.invariant-loop-turn
+invariant-loop-turn g l = let m = g.Q.Rail in m.PutsInto l.rail l.seat × (length (m.made l.seat) ≤ length (m.made l.initial.seat) + l.turn) × (l.kept ≤ l.turn)
