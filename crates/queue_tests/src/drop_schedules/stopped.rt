@@ -1,6 +1,6 @@
 //! One caller stops in mid-call, the others go on, and it is ended later.
 use super::bench::{after, overrun};
-use crate::schedules::stopped::{OPENING_PUT, PLAIN_PUT, Stop, first_steps};
+use crate::schedules::stopped::{Stop, first_steps, opening_put, plain_put};
 use crate::schedules::{
     Part, X, Y, at, empty, ends, moved, put, put_busy, put_ok, take_busy, take_ok, unfinished,
     whole,
@@ -36,7 +36,7 @@ fn a_put_stops(rt: HostRuntime) -> Result<(), Fail> {
     let stop = Stop {
         before: &[],
         start: put(7),
-        found: &PLAIN_PUT,
+        found: &plain_put(),
         answer: put_ok(0),
     };
     let late = put_busy(moved((2, 1), (3, 1)));
@@ -95,7 +95,7 @@ fn a_put_stops_while_it_opens_a_block(rt: HostRuntime) -> Result<(), Fail> {
     let stop = Stop {
         before: &[whole(Y, put(7), put_ok(0))],
         start: put(8),
-        found: &OPENING_PUT,
+        found: &opening_put(),
         answer: put_ok(1),
     };
     let others = [

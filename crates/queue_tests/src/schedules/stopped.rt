@@ -29,22 +29,26 @@ pub fn first_steps<'a>(stop: &Stop<'a>, done: usize) -> Part<'a> {
 }
 
 /// A put that draws a place and ends.
-pub const PLAIN_PUT: [u64; 5] = [2, at(2, 0), at(2, 0), 7, at(2, 0)];
+pub fn plain_put() -> [u64; 5] {
+    [2, at(2, 0), at(2, 0), 7, at(2, 0)]
+}
 
 /// A put that finds the first of two blocks filled, opens the second and ends.
-pub const OPENING_PUT: [u64; 11] = [
-    2,
-    at(2, 1),
-    at(1, 1),
-    at(1, 1),
-    at(1, 1),
-    2,
-    3,
-    at(3, 0),
-    at(3, 0),
-    8,
-    at(3, 0),
-];
+pub fn opening_put() -> [u64; 11] {
+    [
+        2,
+        at(2, 1),
+        at(1, 1),
+        at(1, 1),
+        at(1, 1),
+        2,
+        3,
+        at(3, 0),
+        at(3, 0),
+        8,
+        at(3, 0),
+    ]
+}
 
 // The call stops, the other seat does its calls, and then the first is ended with this answer.
 fn goes_on(
@@ -72,7 +76,7 @@ fn a_put_stops(rt: HostRuntime) -> Result<(), Fail> {
     let stop = Stop {
         before: &[],
         start: put(7),
-        found: &PLAIN_PUT,
+        found: &plain_put(),
         answer: put_ok(0),
     };
     let late = put_busy(moved((2, 1), (3, 1)));
@@ -131,7 +135,7 @@ fn a_put_stops_while_it_opens_a_block(rt: HostRuntime) -> Result<(), Fail> {
     let stop = Stop {
         before: &[whole(Y, put(7), put_ok(0))],
         start: put(8),
-        found: &OPENING_PUT,
+        found: &opening_put(),
         answer: put_ok(1),
     };
     let others = [
@@ -189,6 +193,6 @@ fn a_finished_seat_is_at_rest(rt: HostRuntime) -> Result<(), Fail> {
     bench.finish(&rt, Y)?;
     assert_eq!(rt; bench.answer(&rt, X), Some(put_ok(0)));
     assert_eq!(rt; bench.answer(&rt, Y), None);
-    assert_eq!(rt; bench.trail(&rt, X), &PLAIN_PUT);
+    assert_eq!(rt; bench.trail(&rt, X), plain_put().as_slice());
     Ok(())
 }
