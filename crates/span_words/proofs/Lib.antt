@@ -1,1 +1,2 @@
 pub mod Spellings
+mod Tids

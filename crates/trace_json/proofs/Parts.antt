@@ -12,7 +12,8 @@ use Rattle.span_words.specs.declared.span.SpanKind.{SpanKind}
 use Rattle.span_words.specs.declared.span.SpanKind.TheVariants.{Worker, Piece}
 use Rattle.span_words.specs.declared.span.SpanEvent.{SpanEvent}
 use Rattle.trace_json.proofs.Pending.{Pending, pending_first}
-use Rattle.trace_json.specs.Trace.{entries_of_kind, event_data, counter_data, head_text, span_entries, text_of_counter, text_of_event, text_of_span, text_of_thread, thread_data, tids_of, trace_data, trace_entries, trace_text}
+use Rattle.span_words.specs.Workers.{tids_of}
+use Rattle.trace_json.specs.Trace.{entries_of_kind, event_data, counter_data, head_text, span_entries, text_of_counter, text_of_event, text_of_span, text_of_thread, thread_data, trace_data, trace_entries, trace_text}
 
 -- entries from one on, with the bracket behind them
 abbrev pub entries_text : Bool → List Data → List ℕ

@@ -1,9 +1,7 @@
 -- A trace in the JSON object form of the Trace Event Format: what the workers are called, and
 -- complete events with counters, in an array with metadata beside it.
-use Rattle.std.specs.Prelude.{◌≡◌, ℕ, ◌+◌, ◌<◌, min, List, [], ◌∷◌, ◌++◌, Option, length, map, flat_map, fold, codes, decimal, slice_index_or}
-use Rattle.std.specs.BTreeSet.{insert_key}
+use Rattle.std.specs.Prelude.{◌≡◌, ℕ, ◌+◌, ◌<◌, min, List, [], ◌∷◌, ◌++◌, Option, length, map, flat_map, codes, decimal, slice_index_or}
 use Rattle.std.specs.List.{join_with_byte}
-use Rattle.std.specs.Ordering.{nat_cmp}
 use Rattle.flow_io.specs.Flow.{gained}
 use Rattle.serde_json.specs.Data.{Data, number, unsigned, string, array, object, Members, member, no_members}
 use Rattle.serde_json.specs.View.{items_of}
@@ -11,6 +9,7 @@ use Rattle.serde_json.specs.Written.{compact_text}
 use Rattle.span_words.specs.declared.span.SpanKind.{SpanKind}
 use Rattle.span_words.specs.declared.span.SpanKind.TheVariants.{Worker, Piece}
 use Rattle.span_words.specs.declared.span.SpanEvent.{SpanEvent}
+use Rattle.span_words.specs.Workers.{tids_of}
 
 -- a whole number
 abbrev pub whole : ℕ → Data
@@ -86,10 +85,6 @@ text_of_thread tid = compact_text (thread_data tid)
 
 abbrev pub text_of_counter : SpanEvent → List ℕ
 text_of_counter e = compact_text (counter_data e)
-
--- the numbers of the workers of these spans, each once, in rising order
-abbrev pub tids_of : List SpanEvent → List ℕ
-tids_of events = fold (insert_key nat_cmp) [] (map (λ (e : SpanEvent). e.tid) events)
 
 -- the entries of a span: its event, and behind that of a piece its counter
 abbrev pub entries_of_kind : SpanKind → List (List ℕ) → SpanEvent → List Data

@@ -1,22 +1,11 @@
-ghost use Rattle.std.specs.Prelude.{◌≡◌, ◌++◌, [], ◌∷◌, length, map, flat_map, string_bytes, IfOk, OnOk};
+ghost use Rattle.std.specs.Prelude.{◌≡◌, ◌++◌, [], ◌∷◌, length, map, flat_map, string_bytes, OnOk};
 ghost use Rattle.serde_json.specs.Written.{comma_if};
-ghost use Rattle.trace_json.specs.Trace.{HasFile, tids_of, text_of_thread, text_of_counter, text_of_span};
+ghost use Rattle.span_words.specs.Workers.{tids_of};
+ghost use Rattle.trace_json.specs.Trace.{HasFile, text_of_thread, text_of_counter, text_of_span};
 
 use crate::{counter_text, event_text, thread_text};
-use span_words::{SpanEvent, SpanKind};
+use span_words::{SpanEvent, SpanKind, tids_of};
 use std::alloc::{AllocError, Global};
-use std::collections::BTreeSet;
-
-// The numbers of the workers of these spans.
-fn tids_of(alloc: Global, events: &[SpanEvent]) -> Result<BTreeSet<u64>, AllocError>
-    ensures { IfOk result (λ tids. tids.keys ≡ tids_of events.now) }
-{
-    let mut tids = BTreeSet::new(alloc);
-    for event in events {
-        tids.insert(event.tid)?;
-    }
-    Ok(tids)
-}
 
 /// Writes what the workers of these spans are called. A span follows each, so a comma does too.
 pub fn push_threads(

@@ -1,5 +1,5 @@
 use Rattle.std.proofs.Common.{◌≡◌, ◌++◌}
-use Rattle.trace_json.specs.Trace.{tids_of}
+use Rattle.span_words.specs.Workers.{tids_of}
 use Rattle.trace_json.proofs.Parts.{threads_text}
 use Rattle.trace_json.proofs.entries.push_threads.Given as goal
 
