@@ -182,7 +182,7 @@ module _ (g : Grid) (f : Front) (ws : List ℕ) (vs : List View) (limits : IsWit
 abbrev next_of : List Ended → ℕ
 next_of calls = beyond (places_answered calls)
 
-beyond_append : (xs ys : List ℕ) → beyond (xs ++ ys) ≡ max (beyond xs) (beyond ys)
+pub beyond_append : (xs ys : List ℕ) → beyond (xs ++ ys) ≡ max (beyond xs) (beyond ys)
 beyond_append [] ys = omega arith
 beyond_append (x ∷ xs) ys = let r = beyond_append xs ys in omega arith
 

@@ -4,3 +4,5 @@ pub mod Answered
 pub mod Stops
 mod RetryAlone
 mod RetrySettled
+mod DropAlone
+mod DropSettled

@@ -1,5 +1,5 @@
 -- What stands when the one seat is at rest and the words are shared no more.
-use Rattle.std.proofs.Common.{◌≡◌, ℕ, zero, suc, List, [], ◌∷◌, IsPermutation, length, map, refl, sym, ap, ◌∙◌, subst, arith}
+use Rattle.std.proofs.Common.{◌≡◌, ℕ, zero, suc, List, [], ◌∷◌, IsPermutation, append-nil, length, map, refl, sym, ap, ◌∙◌, subst, arith}
 use Rattle.std.specs.Prelude.{None}
 use Rattle.std.specs.List.{All}
 use Rattle.std.proofs.lemmas.List.{length-map}
@@ -9,13 +9,17 @@ use Rattle.std.proofs.lemmas.List.Sorted.{length_permutation}
 use mathlib.Core.Option.{some}
 use lib.ListN.{get_elem?}
 use Rattle.cursor_word.specs.Shape.{Grid}
-use Rattle.rail.specs.Outcome.{numbers_below}
+use Rattle.rail.specs.declared.entry.Placed.{Placed}
+use Rattle.rail.specs.Items.{IsRising, places}
+use Rattle.rail.specs.Outcome.{IsAccepted, numbers_below}
+use Rattle.rail.proofs.Rising.{rising_accepted, same_by_permutation}
 use Rattle.step_log.specs.declared.log.Step.{Step}
 use Rattle.step_log.specs.Log.{Ends, TableId}
 use Rattle.machine.specs.Table.{Table}
 use Rattle.machine.specs.declared.view.View.{View}
 use Rattle.machine.specs.Invariant.{Fact}
 use Rattle.machine.specs.Steps.{AllRest}
+use Rattle.put_side.specs.Gathered.{all_made}
 use Rattle.call_steps.specs.Rule.{HasRoom}
 use Rattle.call_steps.specs.Queue.{IsSeatOf, Queue, Seated}
 use Rattle.solo_rail.specs.declared.holding.Holding.{Holding}
@@ -47,6 +51,17 @@ module _ {P : Type 0} where
   pub rest_one : (v : View P) → v.phase ≡ None → AllRest (v ∷ [])
   rest_one v rest zero u e = let q : v ≡ u = cc in ap (λ (x : View P). x.phase) (sym q) ∙ rest
   rest_one v rest (suc j) u e = cc
+
+  -- all that is accepted is what the one seat made
+  module _ (v : View P) (accepted : List Placed) (is : IsAccepted (all_made (v ∷ [])) accepted) (rises : IsRising (places v.made)) where
+    made_is : all_made (v ∷ []) ≡ v.made
+    made_is = append-nil v.made
+
+    pub accepted_is : accepted ≡ v.made
+    accepted_is = sym (same_by_permutation v.made accepted rises (rising_accepted (all_made (v ∷ [])) accepted is) (subst (λ (l : List Placed). IsPermutation l accepted) made_is is.all_made))
+
+    pub whole : IsAccepted v.made v.made
+    whole = subst (λ (l : List Placed). IsAccepted l l) accepted_is (subst (λ (l : List Placed). IsAccepted l accepted) (made_is ∙ sym accepted_is) is)
 
   -- a queue of one seat has a list of one
   pub one_of_all : (g : Grid) (seats : List (Seated P)) → g.seats ≡ 1 → IsPermutation (map number_of seats) (numbers_below g.seats) → length seats ≡ 1

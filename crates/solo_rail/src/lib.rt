@@ -7,6 +7,7 @@ mod lone;
 mod queue;
 mod rule;
 mod seat;
+mod solo_drop;
 mod solo_retry;
 
 pub use done::SoloDone;
@@ -15,4 +16,5 @@ pub use lone::LonePhase;
 pub use queue::SoloQueue;
 pub use rule::Alone;
 pub use seat::SoloSeat;
+pub use solo_drop::{SoloDrop, SoloDropDone, SoloDropSeat};
 pub use solo_retry::{SoloRetry, SoloRetryDone, SoloRetrySeat};
