@@ -9,7 +9,7 @@ use crossbeam_queue::ArrayQueue;
 use cursor_word::Shape;
 use drop_rail::DropRail;
 use retry_rail::RetryRail;
-use solo_rail::SoloRetry;
+use solo_rail::{SoloDrop, SoloRetry};
 use std::alloc::Global;
 use std::sync::Wait;
 use std::thread::Threads;
@@ -180,6 +180,9 @@ pub fn overwrite_costs<R: Clock + Wait>(
         let (kept, cost) = kit_overwrite_round(rt, alloc, work)?;
         least.add(kept);
         least.kit = least.kit.min(cost);
+        let (kept, cost) = solo_overwrite_round(rt, alloc, work)?;
+        least.add(kept);
+        least.solo = least.solo.min(cost);
         let (kept, cost) = drop_overwrite_round(rt, alloc, work)?;
         least.add(kept);
         least.drop = least.drop.min(cost);
@@ -195,6 +198,19 @@ fn kit_overwrite_round<R: Clock + Wait>(
     let queue = ArrayQueue::new(alloc, 512)?;
     let start = Instant::now(rt)?;
     let kept = kit_overwrites(rt, &queue, work.pairs);
+    Ok((kept, start.elapsed(rt)?.as_nanos()))
+}
+
+fn solo_overwrite_round<R: Clock>(
+    rt: &R,
+    alloc: Global,
+    work: &Work,
+) -> Result<(u64, u128), anyhow::Error> {
+    let shape = shape_of(work.blocks, 1)?;
+    let _most = shape.most_puts();
+    let (rail, mut seat) = SoloDrop::make(alloc, shape)?;
+    let start = Instant::now(rt)?;
+    let kept = puts(&rail, &mut seat, work.pairs);
     Ok((kept, start.elapsed(rt)?.as_nanos()))
 }
 

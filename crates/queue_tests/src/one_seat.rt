@@ -10,6 +10,8 @@ use std::alloc::Global;
 use std::process::Abort;
 use std::test::Fail;
 
+mod dropping;
+
 #[test]
 fn one_seat_fills_the_queue_and_closes_it(rt: HostRuntime) -> Result<(), Fail> {
     let shape = Shape::new(2, 2, 1, 1)?;
