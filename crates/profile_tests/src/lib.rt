@@ -4,6 +4,8 @@
 #[cfg(test)]
 mod command;
 #[cfg(test)]
+mod folded;
+#[cfg(test)]
 mod hands;
 #[cfg(test)]
 mod long_traces;
@@ -11,6 +13,8 @@ mod long_traces;
 mod options;
 #[cfg(test)]
 mod outside;
+#[cfg(test)]
+mod read_traces;
 #[cfg(test)]
 mod reading;
 #[cfg(test)]
