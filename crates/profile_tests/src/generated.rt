@@ -1,6 +1,6 @@
 //! The generated text, and what the command makes of it.
 use crate::command::{AMPLE, World, tried};
-use generated_words::generate;
+use generated_words::{MOST_GENERATED, generate};
 use std::test::Fail;
 
 #[test]
@@ -12,6 +12,7 @@ fn generates_texts_worked_out_by_hand(rt: HostRuntime) -> Result<(), Fail> {
         (5, b"w5 w6 w9 w14 w21\n"),
         (12, twelve),
     ] {
+        assert!(rt; words <= MOST_GENERATED);
         assert_eq!(rt; generate(alloc, words)?.bytes(), text);
     }
     Ok(())
