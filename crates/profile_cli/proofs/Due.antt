@@ -1,17 +1,17 @@
 -- An input asks for one ending.
-use Rattle.std.proofs.Common.{◌≡◌, ℕ, ◌<◌, ◌≤◌, length, refl, sym, ap, subst, arith, inl, inr}
-use Rattle.std.specs.Prelude.{List, Option, Some, None, IfSome, IsSome, ◌⊎◌}
+use Rattle.std.proofs.Common.{◌≡◌, ℕ, ◌≤◌, length, refl, sym, ap, subst, arith, inl, inr}
+use Rattle.std.specs.Prelude.{List, Option, Some, None, IfSome, IsSome}
 use Rattle.std.proofs.lemmas.Bool.{cases_order}
-use Rattle.flow_io.specs.Flow.{Files, file_named, HoldsNone}
 use Rattle.profile_cli.specs.declared.ending.Ending.{Ending}
-use Rattle.profile_cli.specs.declared.ending.Ending.TheVariants.{Done, Unread, TooLarge, TooMuch, TooManyPieces}
-use Rattle.profile_cli.specs.Input.{AreRead, CanRun, Input, IsDue, IsMissing, IsReached, IsRead, IsThere, IsTooLarge, IsTooMany, IsTooMuch, name_at, text_at}
+use Rattle.profile_cli.specs.declared.ending.Ending.TheVariants.{Unread, TooLarge}
+use Rattle.profile_cli.specs.Input.{AreRead, CanRun, Input, IsDue, IsMissing, IsReached, IsRead, IsThere, IsTooLarge, IsTooMany, IsTooMuch, known, origin_at, text_at}
 use Rattle.profile_cli.specs.Texts.{text_limit}
 use Rattle.profile_cli.specs.Input.IsDue.{done, missing, too_large, too_much, too_many}
 
-missing_there : (files : Option Files) (name : List ℕ) → IfSome files (λ held. IsSome (file_named held name)) → HoldsNone files name → ⊥
-missing_there None name there none = none
-missing_there (Some held) name there none = cc
+missing_there : (is : Option (Option (List ℕ))) → IfSome is IsSome → is ≡ Some None → ⊥
+missing_there None there none = cc
+missing_there (Some None) there none = cc
+missing_there (Some (Some text)) there none = cc
 
 module _ (input : Input) where
   -- text n is the first that can't be had
@@ -20,7 +20,7 @@ module _ (input : Input) where
     refused : IsRead input n → ⊥
 
   first_missing : (n : ℕ) → IsMissing input n → IsFirst n
-  first_missing n m = record { reached = m.reached; refused = λ r. missing_there input.files (name_at input.names n) r.there m.missing }
+  first_missing n m = record { reached = m.reached; refused = λ r. missing_there (known input.files (origin_at input.origins n)) r.there m.missing }
 
   first_large : (n : ℕ) → IsTooLarge input n → IsFirst n
   first_large n l = record { reached = l.reached; refused = λ r. (let a = l.large in let b = r.small in let no : ⊥ = omega arith in no) }
@@ -35,14 +35,14 @@ module _ (input : Input) where
     | inr (inr lt) ↦ absurd (b.refused (a.reached.before m lt))
   ]
 
-  none : (n : ℕ) → AreRead input (length input.names) → IsFirst n → ⊥
+  none : (n : ℕ) → AreRead input (length input.origins) → IsFirst n → ⊥
   none n read a = a.refused (read n a.reached.number)
 
   missing_large : (n m : ℕ) → IsMissing input n → IsTooLarge input m → ⊥
-  missing_large n m a b = missing_there input.files (name_at input.names n) (subst (IsThere input) (sym (same n m (first_missing n a) (first_large m b))) b.there) a.missing
+  missing_large n m a b = missing_there (known input.files (origin_at input.origins n)) (subst (IsThere input) (sym (same n m (first_missing n a) (first_large m b))) b.there) a.missing
 
   missing_much : (n m : ℕ) → IsMissing input n → IsTooMuch input m → ⊥
-  missing_much n m a b = missing_there input.files (name_at input.names n) (subst (IsThere input) (sym (same n m (first_missing n a) (first_much m b))) b.there) a.missing
+  missing_much n m a b = missing_there (known input.files (origin_at input.origins n)) (subst (IsThere input) (sym (same n m (first_missing n a) (first_much m b))) b.there) a.missing
 
   large_much : (n m : ℕ) → IsTooLarge input n → IsTooMuch input m → ⊥
   large_much n m a b =

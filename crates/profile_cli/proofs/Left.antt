@@ -1,21 +1,25 @@
 -- What a run leaves, by where it ended.
-use Rattle.std.proofs.Common.{◌≡◌, ℕ, length, refl, sym, ap, subst, inl, inr}
-use Rattle.std.specs.Prelude.{List, Option, Some, None, ◌⊎◌, Ok, Result}
+use Rattle.std.proofs.Common.{◌≡◌, ℕ, refl, sym, subst, inl, inr}
+use Rattle.std.specs.Prelude.{List, [], Option, Some, None, ◌⊎◌, Ok, Err, Result}
 use Rattle.flow_io.specs.Clock.{Ticks}
 use Rattle.flow_io.specs.Flow.{Files, Rose}
 use Rattle.word_text.specs.Counts.{counts_of_all, counts_text_of}
 use Rattle.profile_cli.specs.declared.ending.Ending.{Ending}
 use Rattle.profile_cli.specs.declared.ending.Ending.TheVariants.{Done, Refused, OutOfMemory, Unread, CountsUnwritten, TooLarge, TooMuch, TooManyPieces, TraceUnwritten}
-use Rattle.profile_cli.specs.declared.options.Refusal.{Refusal}
-use Rattle.profile_cli.specs.Endings.{detail_of, status_of}
+use Rattle.command_words.specs.declared.refusal.Refusal.{Refusal}
+use Rattle.profile_cli.specs.Endings.{detail_of, ending_without, status_of}
+use Rattle.command_words.specs.Refusals.{IfRefused}
+use Rattle.command_words.specs.declared.refusal.ReadError.{ReadError}
+use Rattle.command_words.specs.declared.refusal.ReadError.TheVariants as error
 use Rattle.profile_cli.specs.Messages.{Messages, Says}
-use Rattle.profile_cli.specs.Input.{CanRun, Input, IsDue, IsInput, StopsReading, input_of}
+use Rattle.profile_cli.specs.Input.{CanRun, Input, IsDue, IsInput, StopsReading, input_of, names_of, origins_of}
 use Rattle.profile_cli.specs.Input.IsDue.{done}
 use Rattle.profile_cli.specs.Queue.{ClosedQueue, IsQueueOf}
-use Rattle.profile_cli.specs.Run.{Closes, Ends, IsStopped, Leaves, Reported, RunLeaves, SourceFaults, names_by, names_of}
-use Rattle.profile_cli.specs.Usage.{Asked}
+use Rattle.profile_cli.specs.Run.{Closes, Ends, IsStopped, Leaves, Reported, SourceFaults, names_by}
+use Rattle.command_words.specs.Usage.{Asked}
 use Rattle.profile_cli.specs.Written.{OutFaults, Outputs, StoreFaults, Writes, documents_of}
 use Rattle.profile_cli.proofs.Due.{due_once}
+use Rattle.profile_cli.proofs.Held.{some_input}
 
 module _ (piece : ℕ) (input : Input) (rose : Type 0) where
   also_stopped : (ending : Ending) → StopsReading input rose ending → IsStopped piece input rose ending
@@ -39,10 +43,10 @@ store_same ending n c = refl
 -- a run that ended before it closed a queue
 pub left_before : (asked : Asked) (files : Option Files) (clock : ℕ → Option Ticks) (before after : ℕ) (outputs : Outputs) (ending : Ending)
     → Closes ending None → SourceFaults ending before after
-    → (texts : List (List ℕ)) × (IsInput (input_of (names_of asked) files texts) × (IsDue asked.piece (input_of (names_of asked) files texts) ending ⊎ StopsReading (input_of (names_of asked) files texts) (Rose before after) ending))
+    → (texts : List (List ℕ)) × (IsInput (input_of (origins_of asked) files texts) × (IsDue asked.piece (input_of (origins_of asked) files texts) ending ⊎ StopsReading (input_of (origins_of asked) files texts) (Rose before after) ending))
     → Leaves (Ok asked) files (record { queue = None; clock = clock; faults_before = before; faults_after = after; before = outputs; after = outputs }) ending
 left_before asked files clock before after outputs ending closes faults left =
-    let input = input_of (names_of asked) files left.0 in
+    let input = input_of (origins_of asked) files left.0 in
     let cause : IsDue asked.piece input ending ⊎ IsStopped asked.piece input (Rose before after) ending =
     elim left.1.1 [ inl due ↦ inl due | inr stopped ↦ inr (also_stopped asked.piece input (Rose before after) ending stopped) ] in (
       left.0,
@@ -58,6 +62,23 @@ left_before asked files clock before after outputs ending closes faults left =
         written = record { out = refl; documents = refl };
       },
     )
+
+-- words that gave no options: nothing was read and nothing written
+pub left_without : (error : ReadError) (usage : Result Asked Refusal) (files : Option Files) (clock : ℕ → Option Ticks) (faults : ℕ) (outputs : Outputs)
+    → IfRefused error (λ refusal. usage ≡ Err refusal)
+    → Leaves usage files (record { queue = None; clock = clock; faults_before = faults; faults_after = faults; before = outputs; after = outputs }) (ending_without error)
+left_without (error.Refused refusal) usage files clock faults outputs refused =
+    subst (λ (u : Result Asked Refusal). Leaves u files (record { queue = None; clock = clock; faults_before = faults; faults_after = faults; before = outputs; after = outputs }) (Refused refusal)) (sym refused)
+    (record { cause = inl refl; source = refl; closes = refl; outputs = refl })
+left_without error.Memory (Err refusal) files clock faults outputs none = record { cause = inr refl; source = refl; closes = refl; outputs = refl }
+left_without error.Memory (Ok asked) files clock faults outputs none =
+    let some = some_input (origins_of asked) files in
+    left_before asked files clock faults faults outputs OutOfMemory tt refl (some.0, (some.1, inr tt))
+
+-- their message names no text
+pub says_without : (error : ReadError) (usage : Result Asked Refusal) (before after : Messages) → Says [] (ending_without error) before after → Says (names_by usage) (ending_without error) before after
+says_without (error.Refused refusal) usage before after says = says
+says_without error.Memory usage before after says = says
 
 module _ (piece : ℕ) (input : Input) (rose : Type 0) (counts : List ℕ) (asks : Files) (before after : Outputs) where
   cause_behind : (ending : Ending) → CanRun input piece → Writes counts asks before after ending → IsDue piece input ending ⊎ IsStopped piece input rose ending
@@ -88,7 +109,7 @@ module _ (piece : ℕ) (input : Input) (rose : Type 0) (counts : List ℕ) (asks
 
 -- a run that closed its queue, and then wrote what it could
 pub left_behind : (asked : Asked) (files : Option Files) (clock : ℕ → Option Ticks) (texts : List (List ℕ)) (old new : ℕ) (before after : Outputs) (ending : Ending) (queue : ClosedQueue)
-    → new ≡ old → IsInput (input_of (names_of asked) files texts) × CanRun (input_of (names_of asked) files texts) asked.piece
+    → new ≡ old → IsInput (input_of (origins_of asked) files texts) × CanRun (input_of (origins_of asked) files texts) asked.piece
     → IsQueueOf asked texts clock queue
     → OutFaults ending before.out_faults after.out_faults → StoreFaults ending before.store_faults after.store_faults
     → Writes (counts_text_of (counts_of_all texts)) (documents_of asked (names_of asked) queue) before after ending
@@ -96,7 +117,7 @@ pub left_behind : (asked : Asked) (files : Option Files) (clock : ℕ → Option
 left_behind asked files clock texts old new before after ending queue same input is_queue out store w =
     let text = counts_text_of (counts_of_all texts) in
     let asks = documents_of asked (names_of asked) queue in
-    let whole = input_of (names_of asked) files texts in
+    let whole = input_of (origins_of asked) files texts in
     let cause = cause_behind asked.piece whole (Rose old new) text asks before after ending input.1 w in (
       texts,
       input.0,

@@ -1,8 +1,8 @@
 pub mod Stored
-pub mod Accepted
+pub mod Listed
 pub mod Held
 pub mod Planned
-pub mod UsageWords
 pub mod Said
 pub mod Due
 pub mod Left
+pub mod Names

@@ -1,5 +1,5 @@
 -- A document that was begun and written to.
-use Rattle.std.proofs.Common.{◌≡◌, ℕ, List, [], ◌∷◌, ◌++◌, length, take, refl, Option, Some, None, IfSome, sym, ap, ◌∙◌, inl, inr, subst}
+use Rattle.std.proofs.Common.{◌≡◌, ℕ, List, [], ◌∷◌, take, refl, Option, Some, None, IfSome, ap, ◌∙◌, inl, inr}
 use Rattle.flow_io.specs.Flow.{Files, Beside, documents, gained, GainedPart}
 use Rattle.profile_cli.specs.Written.{GainsDocuments, GainsPart}
 

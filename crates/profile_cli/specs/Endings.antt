@@ -1,9 +1,16 @@
 -- The statuses with which the command ends, and what it says of each.
-use Rattle.std.specs.Prelude.{◌≡◌, ℕ, List, [], ◌∷◌, ◌++◌, Option, codes, Result, Ok, Err}
+use Rattle.std.specs.Prelude.{ℕ, List, [], ◌∷◌, ◌++◌, codes}
 use Rattle.profile_cli.specs.declared.ending.Ending.{Ending}
 use Rattle.profile_cli.specs.declared.ending.Ending.TheVariants.{Done, Refused, OutOfMemory, Unread, CountsUnwritten, TooLarge, TooMuch, TooManyPieces, TraceUnwritten}
-use Rattle.profile_cli.specs.Usage.{refusal_number, refusal_word}
+use Rattle.command_words.specs.declared.refusal.ReadError.{ReadError}
+use Rattle.command_words.specs.declared.refusal.ReadError.TheVariants as error
+use Rattle.command_words.specs.Refusals.{refusal_number, refusal_word}
 use Rattle.profile_cli.specs.Input.{name_at}
+
+-- how the command ends where its words give no options
+abbrev pub ending_without : ReadError → Ending
+ending_without (error.Refused refusal) = Refused refusal
+ending_without error.Memory = OutOfMemory
 
 -- the status
 abbrev pub status_of : Ending → ℕ

@@ -4,5 +4,4 @@ pub mod Messages
 pub mod Queue
 pub mod Run
 pub mod Texts
-pub mod Usage
 pub mod Written

@@ -1,21 +1,20 @@
 -- The queue that a run closed.
-use Rattle.std.specs.Prelude.{◌≡◌, ℕ, List, [], length, Option, Some, None}
+use Rattle.std.specs.Prelude.{◌≡◌, ℕ, ◌-◌, ◌*◌, ◌≤◌, Bool, if◌then◌else◌, List, [], length, min, Option, Some, None}
 use Rattle.cursor_word.specs.Shape.{Grid}
 use Rattle.flow_io.specs.Clock.{Ticks}
 use Rattle.rail.specs.declared.entry.Placed.{Placed}
 use Rattle.rail.specs.Items.{places}
 use Rattle.rail.specs.Outcome.{DropOutcome, RetryOutcome, numbers_below}
+use Rattle.span_words.specs.declared.span.SpanEvent.{SpanEvent}
 use Rattle.span_words.specs.declared.span.TheConstants.{SPAN_WORDS}
+use Rattle.span_recorder.specs.Events.{events_of}
 use Rattle.word_text.specs.Pieces.{plan_of}
 use Rattle.word_workers.specs.Trace.{RunTrace}
 use Rattle.profile_cli.specs.declared.rails.Closed.{Closed}
 use Rattle.profile_cli.specs.declared.rails.Closed.TheVariants as closed
-use Rattle.profile_cli.specs.Usage.{Asked}
-
--- what a full queue does: it refuses new entries, or drops its oldest
-pub data Mode : Type 0 where
-  RetryNew : Mode
-  DropOld : Mode
+use Rattle.command_words.specs.Usage.{Asked}
+use Rattle.command_words.specs.declared.options.Mode.{Mode}
+use Rattle.command_words.specs.declared.options.Mode.TheVariants.{DropOld, RetryNew}
 
 -- its mode and shape, and its lists in order of place
 pub record ClosedQueue : Type 0 where
@@ -25,21 +24,38 @@ pub record ClosedQueue : Type 0 where
   pub taken : List Placed
   pub left : List Placed
 
--- the queue that the program closed, if any, by what is seen of it
-abbrev pub queue_of : {A B C D : Type 0} → (D → Grid) → (D → List Placed) → (D → List Placed)
-    → (D → List Placed) → Closed A B C D → Option ClosedQueue
-queue_of shape accepted taken left closed.Nothing = None
-queue_of shape accepted taken left (closed.Retry done) = Some (record {
-  mode = RetryNew;
-  shape = shape done;
-  accepted = accepted done;
-  taken = taken done;
-  left = left done;
-})
+-- what is seen of a closed queue of some kind
+pub record Seen (D : Type 0) : Type 0 where
+  pub shape : D → Grid
+  pub accepted : D → List Placed
+  pub taken : D → List Placed
+  pub left : D → List Placed
 
--- the mode that is asked for
-abbrev pub mode_for : Asked → Mode
-mode_for asked = RetryNew
+abbrev pub seen : {D : Type 0} → (D → Grid) → (D → List Placed) → (D → List Placed)
+    → (D → List Placed) → Seen D
+seen shape accepted taken left =
+    record { shape = shape; accepted = accepted; taken = taken; left = left }
+
+abbrev pub closed_queue : {D : Type 0} → Mode → Seen D → D → ClosedQueue
+closed_queue mode sees done = record {
+  mode = mode;
+  shape = sees.shape done;
+  accepted = sees.accepted done;
+  taken = sees.taken done;
+  left = sees.left done;
+}
+
+-- the queue that the program closed, if any, by what is seen of those that refuse new entries and
+-- of those that drop their oldest
+abbrev pub queue_of : {A B C D E F G : Type 0} → Seen E → Seen G → Closed A B C D E F G
+    → Option ClosedQueue
+queue_of retry drop closed.Nothing = None
+queue_of retry drop (closed.Retry done) = Some (closed_queue RetryNew retry done)
+queue_of retry drop (closed.DropOld done) = Some (closed_queue DropOld drop done)
+
+-- what a kind of queue does, which drops its oldest entries or doesn't
+abbrev pub mode_by : Bool → Mode
+mode_by drops = if drops then DropOld else RetryNew
 
 -- the shape that a run asks for: its workers run one after another, through one seat
 abbrev pub shape_for : Asked → Grid
@@ -51,16 +67,6 @@ IsOutcome RetryNew shape accepted taken left = RetryOutcome accepted taken left
 IsOutcome DropOld shape accepted taken left =
     (taken ≡ []) × DropOutcome shape accepted taken left
 
--- the queue of a run over these texts: it has the asked mode and shape, and all that it had
--- accepted stands in one order, each worker's spans whole and in its order
-pub record IsQueueOf (asked : Asked) (texts : List (List ℕ)) (clock : ℕ → Option Ticks)
-    (queue : ClosedQueue) : Type 0 where
-  pub mode : queue.mode ≡ mode_for asked
-  pub shape : queue.shape ≡ shape_for asked
-  pub order : places queue.accepted ≡ numbers_below (length queue.accepted)
-  pub outcome : IsOutcome queue.mode queue.shape queue.accepted queue.taken queue.left
-  pub run : RunTrace queue.accepted asked.workers (plan_of texts asked.piece) texts clock
-
 -- what a trace lists: all that was accepted, or where the oldest entries are dropped, what was left
 abbrev pub listed_by : Mode → List Placed → List Placed → List Placed
 listed_by RetryNew accepted left = accepted
@@ -68,3 +74,22 @@ listed_by DropOld accepted left = left
 
 abbrev pub listed : ClosedQueue → List Placed
 listed queue = listed_by queue.mode queue.accepted queue.left
+
+-- the queue of a run over these texts: it has the asked mode and shape, and all that it had
+-- accepted stands in one order, each worker's spans whole and in its order
+pub record IsQueueOf (asked : Asked) (texts : List (List ℕ)) (clock : ℕ → Option Ticks)
+    (queue : ClosedQueue) : Type 0 where
+  pub mode : queue.mode ≡ asked.mode
+  pub shape : queue.shape ≡ shape_for asked
+  pub order : places queue.accepted ≡ numbers_below (length queue.accepted)
+  pub outcome : IsOutcome queue.mode queue.shape queue.accepted queue.taken queue.left
+  -- never fewer are listed than all blocks but one hold
+  pub enough : min (length queue.accepted) ((queue.shape.blocks - 1) * queue.shape.size)
+      ≤ length (listed queue)
+  pub run : RunTrace queue.accepted asked.workers (plan_of texts asked.piece) texts clock
+
+-- a run closed this queue, of which these are the spans that it lists and the number of those that
+-- it accepted
+pub record HasListed (queue : ClosedQueue) (accepted : ℕ) (events : List SpanEvent) : Type 0 where
+  pub number : accepted ≡ length queue.accepted
+  pub spans : events ≡ events_of (listed queue)

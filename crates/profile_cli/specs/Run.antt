@@ -5,12 +5,12 @@ use Rattle.flow_io.specs.Flow.{Files, Rose}
 use Rattle.word_text.specs.Counts.{counts_of_all, counts_text_of}
 use Rattle.profile_cli.specs.declared.ending.Ending.{Ending}
 use Rattle.profile_cli.specs.declared.ending.Ending.TheVariants.{Done, Refused, OutOfMemory, Unread, CountsUnwritten, TraceUnwritten}
-use Rattle.profile_cli.specs.declared.options.Refusal.{Refusal}
+use Rattle.command_words.specs.declared.refusal.Refusal.{Refusal}
 use Rattle.profile_cli.specs.Endings.{detail_of, status_of}
-use Rattle.profile_cli.specs.Input.{CanRun, Input, IsDue, IsInput, StopsReading, input_of}
+use Rattle.profile_cli.specs.Input.{CanRun, Input, IsDue, IsInput, StopsReading, input_of, names_of, origins_of}
 use Rattle.profile_cli.specs.Messages.{Messages, Says}
 use Rattle.profile_cli.specs.Queue.{ClosedQueue, IsQueueOf}
-use Rattle.profile_cli.specs.Usage.{Asked}
+use Rattle.command_words.specs.Usage.{Asked}
 use Rattle.profile_cli.specs.Written.{IsKept, OutFaults, Outputs, StoreFaults, Writes, documents_of}
 
 -- the queue that was closed, if any, what the clock tells, and the source's count of faults, the
@@ -22,10 +22,6 @@ pub record Run : Type 0 where
   pub faults_after : ℕ
   pub before : Outputs
   pub after : Outputs
-
--- the names of the texts that are asked for
-abbrev pub names_of : Asked → List (List ℕ)
-names_of asked = asked.files
 
 -- the source's count of faults rises only where a text can't be read
 abbrev pub SourceFaults : Ending → ℕ → ℕ → Type 0
@@ -51,7 +47,7 @@ Closes other queue = queue ≡ None
 abbrev pub RunWrites : Asked → Input → Outputs → Outputs → Ending → Option ClosedQueue → Type 0
 RunWrites asked input before after ending None = IsKept before after
 RunWrites asked input before after ending (Some queue) =
-    Writes (counts_text_of (counts_of_all input.texts)) (documents_of asked input.names queue)
+    Writes (counts_text_of (counts_of_all input.texts)) (documents_of asked (names_of asked) queue)
     before after ending
 
 -- what a run of this input leaves that ended so
@@ -78,12 +74,11 @@ pub record RefusalLeaves (refusal : Refusal) (run : Run) (ending : Ending) : Typ
   pub closes : run.queue ≡ None
   pub outputs : run.after ≡ run.before
 
--- what the command leaves, by what its words ask: of some texts, one for each that is asked, those
--- that the source holds where it tells its files
+-- what the command leaves, by what its words ask: of some texts, one of each origin that is asked
 abbrev pub Leaves : Result Asked Refusal → Option Files → Run → Ending → Type 0
 Leaves (Ok asked) files run ending =
-    (texts : List (List ℕ)) × IsInput (input_of (names_of asked) files texts)
-    × RunLeaves asked (input_of (names_of asked) files texts) run ending
+    (texts : List (List ℕ)) × IsInput (input_of (origins_of asked) files texts)
+    × RunLeaves asked (input_of (origins_of asked) files texts) run ending
 Leaves (Err refusal) files run ending = RefusalLeaves refusal run ending
 
 -- the names of the texts, where the words aren't refused

@@ -1,10 +1,6 @@
--- The texts of the input, and their limits.
-use Rattle.std.specs.Prelude.{ℕ, List, map, String, string_bytes}
+-- The limits of the texts of the input.
+use Rattle.std.specs.Prelude.{ℕ}
 use Rattle.flow_io.specs.declared.reading.TheConstants.{MOST_INPUT, MOST_TEXT}
-
--- these words or names, as bytes
-abbrev pub bytes_of : {Y : Type 0} → List (String Y) → List (List ℕ)
-bytes_of ws = map string_bytes ws
 
 -- a text of more bytes than this is too large
 abbrev pub text_limit : ℕ

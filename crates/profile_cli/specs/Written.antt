@@ -1,5 +1,5 @@
 -- What a run writes: the counts, and behind them the documents of the trace store.
-use Rattle.std.specs.Prelude.{◌≡◌, ℕ, ◌<◌, ◌⊎◌, List, [], ◌∷◌, ◌++◌, length, map, take, Option, Some, None, IfSome}
+use Rattle.std.specs.Prelude.{◌≡◌, ℕ, ◌<◌, ◌⊎◌, List, [], ◌∷◌, ◌++◌, length, map, take, Option, Some, IfSome}
 use Rattle.flow_io.specs.Flow.{Files, Rose, gained, GainedPart}
 use Rattle.rail.specs.declared.entry.Placed.{Placed}
 use Rattle.span_words.specs.declared.span.SpanEvent.{SpanEvent}
@@ -10,8 +10,8 @@ use Rattle.profile_cli.specs.declared.ending.Ending.{Ending}
 use Rattle.profile_cli.specs.declared.ending.Ending.TheVariants.{Done, OutOfMemory, CountsUnwritten, TraceUnwritten}
 use Rattle.profile_cli.specs.declared.writing.Results.{Results}
 use Rattle.profile_cli.specs.Queue.{ClosedQueue, listed}
-use Rattle.profile_cli.specs.Texts.{bytes_of}
-use Rattle.profile_cli.specs.Usage.{Asked}
+use Rattle.command_words.specs.Texts.{bytes_of}
+use Rattle.command_words.specs.Usage.{Asked}
 
 -- the output and the trace store at one moment: what they tell, and how often they have failed
 pub record Outputs : Type 0 where

@@ -1,17 +1,18 @@
 ghost use Rattle.std.specs.Prelude.{◌≡◌, Ok, Result};
 ghost use Rattle.flow_io.specs.Flow.{documents};
-ghost use Rattle.profile_cli.specs.Queue.{queue_of};
+ghost use Rattle.profile_cli.specs.Input.{names_of};
+ghost use Rattle.profile_cli.specs.Queue.{queue_of, seen};
 ghost use Rattle.profile_cli.specs.Run.{Leaves};
-ghost use Rattle.profile_cli.specs.Usage.{IsWithinLimits, asked_of};
+ghost use Rattle.command_words.specs.Texts.{bytes_of};
+ghost use Rattle.command_words.specs.Usage.{IsWithinLimits, asked_of};
 
+use crate::command::Command;
 use crate::ending::Ending;
 use crate::input::read_input;
-use crate::options::Options;
-use crate::queue_run::{Ran, run_retry_new};
+use crate::queue_run::{Ran, run_queue};
 use crate::rails::{Closed, Rails};
 use crate::writing::{Results, write_results};
 use flow_io::{Clock, Sink, Source, TraceStore};
-use rail::Rail;
 use std::alloc::Global;
 use std::sync::Wait;
 use std::thread::Threads;
@@ -37,7 +38,7 @@ pub fn carry_out<
 >(
     rt: &X,
     alloc: Global,
-    options: &Options<'_>,
+    command: &Command,
     files: &mut F,
     out: &mut O,
     trace: &mut T,
@@ -46,10 +47,13 @@ pub fn carry_out<
     rails: &R,
 ) -> Ended<R>
     requires ready { O.ready out.old }
-    requires limits { IsWithinLimits options.now }
-    ensures leaves { Leaves (Ok (asked_of options.now)) (F.files files.old) (record {
-      queue = queue_of R.Retry.done_shape R.Retry.done_accepted R.Retry.done_taken
-          R.Retry.done_left result.closed;
+    requires limits { IsWithinLimits command.now.options }
+    requires names { bytes_of command.now.names.items ≡ names_of (asked_of command.now.options) }
+    ensures leaves { Leaves (Ok (asked_of command.now.options)) (F.files files.old) (record {
+      queue = queue_of
+          (seen R.Retry.done_shape R.Retry.done_accepted R.Retry.done_taken R.Retry.done_left)
+          (seen R.DropOld.done_shape R.DropOld.done_accepted R.DropOld.done_taken
+          R.DropOld.done_left) result.closed;
       clock = C.ticks clock.now;
       faults_before = F.faults files.old;
       faults_after = F.faults files.new;
@@ -70,6 +74,7 @@ pub fn carry_out<
     ensures beside { O.beside out.new ≡ O.beside out.old }
     ensures ready { O.ready out.new }
 {
+    let options = &command.options;
     let planned = match read_input(alloc, files, options) {
         Ok(planned) => planned,
         Err(ending) => {
@@ -80,7 +85,7 @@ pub fn carry_out<
         }
     };
     let texts = planned.texts.as_slice();
-    let ran = run_retry_new(rt, alloc, options, &planned.plan, texts, clock, gate, rails);
+    let ran = run_queue(rt, alloc, options, &planned.plan, texts, clock, gate, rails);
     let Ok(ran) = ran else {
         return Ended {
             ending: Ending::OutOfMemory,
@@ -89,19 +94,17 @@ pub fn carry_out<
     };
     let Ran {
         counts,
-        done,
+        closed,
+        accepted,
         events,
     } = ran;
     let results = Results {
         counts: &counts,
-        trace: options.trace,
-        names: options.files,
+        trace: options.trace.as_str(),
+        names: command.names.as_slice(),
         events: events.as_slice(),
-        accepted: <R::Retry as Rail>::accepted(&done),
+        accepted,
     };
     let ending = write_results(alloc, &results, out, trace);
-    Ended {
-        ending,
-        closed: Closed::Retry(done),
-    }
+    Ended { ending, closed }
 }

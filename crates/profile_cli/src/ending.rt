@@ -1,7 +1,7 @@
 ghost use Rattle.std.specs.Prelude.{◌≡◌};
-ghost use Rattle.profile_cli.specs.Endings.{detail_of, status_of};
+ghost use Rattle.profile_cli.specs.Endings.{detail_of, ending_without, status_of};
 
-use crate::options::Refusal;
+use command_words::{ReadError, Refusal};
 
 /// How the command ends.
 #[derive(Clone, Copy, Debug, PartialEq, Eq)]
@@ -21,6 +21,16 @@ pub enum Ending {
 }
 
 impl Ending {
+    /// How the command ends where its words give no options.
+    pub fn without_options(error: ReadError) -> Ending
+        ensures { result ≡ ending_without error }
+    {
+        match error {
+            ReadError::Refused(refusal) => Ending::Refused(refusal),
+            ReadError::Memory => Ending::OutOfMemory,
+        }
+    }
+
     /// Its status.
     pub fn status(self) -> u8
         ensures { result ≡ status_of self }

@@ -3,10 +3,10 @@
 #![tactic(auto)]
 
 mod asked;
+mod command;
 mod ending;
 mod input;
 mod messages;
-mod options;
 mod plans;
 mod profiling;
 mod queue_run;
@@ -15,7 +15,6 @@ mod solo_rails;
 mod texts;
 mod writing;
 
-pub use options::{Options, Refusal, read_options};
 pub use profiling::profile;
 pub use rails::{Closed, Rails, Report};
 pub use solo_rails::SoloRails;

@@ -1,7 +1,7 @@
 ghost use Rattle.std.specs.Prelude.{◌≡◌};
 ghost use Rattle.profile_cli.specs.Endings.{first_part, subject_of};
 ghost use Rattle.profile_cli.specs.Messages.{Says};
-ghost use Rattle.profile_cli.specs.Texts.{bytes_of};
+ghost use Rattle.command_words.specs.Texts.{bytes_of};
 
 use crate::ending::Ending;
 use flow_io::{Sink, say};

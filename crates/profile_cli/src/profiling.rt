@@ -1,15 +1,15 @@
 ghost use Rattle.std.specs.Prelude.{◌≡◌};
 ghost use Rattle.flow_io.specs.Flow.{documents};
 ghost use Rattle.profile_cli.specs.Endings.{detail_of, status_of};
-ghost use Rattle.profile_cli.specs.Queue.{queue_of};
+ghost use Rattle.profile_cli.specs.Queue.{queue_of, seen};
 ghost use Rattle.profile_cli.specs.Run.{Ends};
-ghost use Rattle.profile_cli.specs.Texts.{bytes_of};
-ghost use Rattle.profile_cli.specs.Usage.{usage};
+ghost use Rattle.command_words.specs.Texts.{bytes_of};
+ghost use Rattle.command_words.specs.Usage.{usage};
 
 use crate::asked::{Ended, carry_out};
+use crate::command::read_command;
 use crate::ending::Ending;
 use crate::messages::say_ending;
-use crate::options::read_options;
 use crate::rails::{Closed, Rails, Report};
 use flow_io::{Clock, Sink, Source, TraceStore};
 use std::alloc::Global;
@@ -17,8 +17,8 @@ use std::sync::Wait;
 use std::thread::Threads;
 use word_workers::Gate;
 
-/// All that the command does: it counts the words of the FILEs by workers that note their spans in
-/// a queue, and writes the counts, the trace and, where it can't, a message.
+/// All that the command does: it counts the words of the generated text and of the FILEs by workers
+/// that note their spans in a queue, and writes the counts, the trace and, where it can't, a message.
 pub fn profile<
     X: Threads + Wait + Sync,
     F: Source,
@@ -48,8 +48,10 @@ pub fn profile<
           record { told = M.told messages.new; faults = M.faults messages.new },
         )
         (record {
-          queue = queue_of R.Retry.done_shape R.Retry.done_accepted R.Retry.done_taken
-              R.Retry.done_left result.closed;
+          queue = queue_of
+              (seen R.Retry.done_shape R.Retry.done_accepted R.Retry.done_taken R.Retry.done_left)
+              (seen R.DropOld.done_shape R.DropOld.done_accepted R.DropOld.done_taken
+              R.DropOld.done_left) result.closed;
           clock = C.ticks clock.now;
           faults_before = F.faults files.old;
           faults_after = F.faults files.new;
@@ -72,16 +74,16 @@ pub fn profile<
     ensures messages_beside { M.beside messages.new ≡ M.beside messages.old }
     ensures messages_ready { M.ready messages.new }
 {
-    match read_options(words) {
-        Ok(options) => {
+    match read_command(alloc, words) {
+        Ok(command) => {
             let Ended { ending, closed } = carry_out(
-                rt, alloc, &options, files, out, trace, clock, gate, rails,
+                rt, alloc, &command, files, out, trace, clock, gate, rails,
             );
-            say_ending(messages, ending, options.files);
+            say_ending(messages, ending, command.names.as_slice());
             report(ending, closed)
         }
-        Err(refusal) => {
-            let ending = Ending::Refused(refusal);
+        Err(error) => {
+            let ending = Ending::without_options(error);
             say_ending(messages, ending, &[]);
             report(ending, Closed::Nothing)
         }

@@ -3,7 +3,7 @@ ghost use Rattle.std.specs.List.{All};
 ghost use Rattle.flow_io.specs.Flow.{Rose, documents};
 ghost use Rattle.trace_json.specs.Trace.{HasFile, trace_text};
 ghost use Rattle.word_text.specs.Counts.{counts_text_of};
-ghost use Rattle.profile_cli.specs.Texts.{bytes_of};
+ghost use Rattle.command_words.specs.Texts.{bytes_of};
 ghost use Rattle.profile_cli.specs.Written.{GainsDocuments, GainsPart, OutFaults, StoreFaults, Writes, asks_of};
 
 use crate::ending::Ending;

@@ -2,7 +2,7 @@
 use flow_io::{MemClock, MemSink, MemSource, MemStore};
 use profile_cli::{Closed, SoloRails, profile};
 use rail::Rail;
-use solo_rail::SoloRetry;
+use solo_rail::{SoloDrop, SoloRetry};
 use std::alloc::{AllocError, Global};
 use std::process::Abort;
 use std::sync::Wait;
@@ -12,31 +12,31 @@ use word_workers::NoGate;
 
 /// What a run of the command left.
 #[derive(Drop)]
-struct Left {
-    status: u8,
-    detail: u64,
+pub(crate) struct Left {
+    pub(crate) status: u8,
+    pub(crate) detail: u64,
     accepted: Option<u64>,
-    out: MemSink,
-    messages: MemSink,
-    trace: MemStore,
+    pub(crate) out: MemSink,
+    pub(crate) messages: MemSink,
+    pub(crate) trace: MemStore,
 }
 
 /// What a run of the command may find: the source's calls that fail, and the room for the counts and for the trace.
 #[derive(Clone, Copy)]
-struct World<'a> {
-    fails: &'a [u64],
-    room: usize,
-    trace_room: usize,
+pub(crate) struct World<'a> {
+    pub(crate) fails: &'a [u64],
+    pub(crate) room: usize,
+    pub(crate) trace_room: usize,
 }
 
-const AMPLE: World = World {
+pub(crate) const AMPLE: World = World {
     fails: &[],
     room: 1 << 10,
     trace_room: 1 << 16,
 };
 
 /// A run of these words, over one file in memory.
-fn tried<X: Threads + Wait + Sync>(
+pub(crate) fn tried<X: Threads + Wait + Sync>(
     rt: &X,
     alloc: Global,
     words: &[&str],
@@ -73,6 +73,7 @@ fn tried<X: Threads + Wait + Sync>(
         detail: report.detail,
         accepted: match &report.closed {
             Closed::Retry(done) => Some(SoloRetry::accepted(done)),
+            Closed::DropOld(done) => Some(SoloDrop::accepted(done)),
             Closed::Nothing => None,
         },
         out,
@@ -111,6 +112,14 @@ const IDLE: &[u8] =
 /// The trace of two such files by two workers, in pieces of at least four bytes but for the last of each.
 const TWICE: &[u8] =
     b"{\"displayTimeUnit\":\"ms\",\"otherData\":{\"accepted\":6,\"kept\":6},\"traceEvents\":[{\"args\":{\"name\":\"worker 1\"},\"name\":\"thread_name\",\"ph\":\"M\",\"pid\":1,\"tid\":1},{\"args\":{\"name\":\"worker 2\"},\"name\":\"thread_name\",\"ph\":\"M\",\"pid\":1,\"tid\":2},{\"args\":{\"depth\":1,\"file\":0,\"piece\":0,\"total\":3,\"words\":3},\"cat\":\"piece\",\"dur\":1,\"name\":\"ab.txt\",\"ph\":\"X\",\"pid\":1,\"tid\":1,\"ts\":1},{\"args\":{\"words\":3},\"name\":\"words 1\",\"ph\":\"C\",\"pid\":1,\"tid\":1,\"ts\":2},{\"args\":{\"depth\":1,\"file\":0,\"piece\":1,\"total\":3,\"words\":0},\"cat\":\"piece\",\"dur\":1,\"name\":\"ab.txt\",\"ph\":\"X\",\"pid\":1,\"tid\":1,\"ts\":3},{\"args\":{\"words\":3},\"name\":\"words 1\",\"ph\":\"C\",\"pid\":1,\"tid\":1,\"ts\":4},{\"args\":{\"depth\":1,\"file\":1,\"piece\":2,\"total\":6,\"words\":3},\"cat\":\"piece\",\"dur\":1,\"name\":\"ab.txt\",\"ph\":\"X\",\"pid\":1,\"tid\":1,\"ts\":5},{\"args\":{\"words\":6},\"name\":\"words 1\",\"ph\":\"C\",\"pid\":1,\"tid\":1,\"ts\":6},{\"args\":{\"depth\":1,\"file\":1,\"piece\":3,\"total\":6,\"words\":0},\"cat\":\"piece\",\"dur\":1,\"name\":\"ab.txt\",\"ph\":\"X\",\"pid\":1,\"tid\":1,\"ts\":7},{\"args\":{\"words\":6},\"name\":\"words 1\",\"ph\":\"C\",\"pid\":1,\"tid\":1,\"ts\":8},{\"args\":{\"depth\":0,\"pieces\":4,\"total\":6,\"words\":6},\"cat\":\"worker\",\"dur\":9,\"name\":\"worker\",\"ph\":\"X\",\"pid\":1,\"tid\":1,\"ts\":0},{\"args\":{\"depth\":0,\"pieces\":0,\"total\":0,\"words\":0},\"cat\":\"worker\",\"dur\":1,\"name\":\"worker\",\"ph\":\"X\",\"pid\":1,\"tid\":2,\"ts\":0}]}\n";
+
+/// The trace of five generated words by one worker.
+const GENERATED: &[u8] =
+    b"{\"displayTimeUnit\":\"ms\",\"otherData\":{\"accepted\":2,\"kept\":2},\"traceEvents\":[{\"args\":{\"name\":\"worker 1\"},\"name\":\"thread_name\",\"ph\":\"M\",\"pid\":1,\"tid\":1},{\"args\":{\"depth\":1,\"file\":0,\"piece\":0,\"total\":5,\"words\":5},\"cat\":\"piece\",\"dur\":1,\"name\":\"generated\",\"ph\":\"X\",\"pid\":1,\"tid\":1,\"ts\":1},{\"args\":{\"words\":5},\"name\":\"words 1\",\"ph\":\"C\",\"pid\":1,\"tid\":1,\"ts\":2},{\"args\":{\"depth\":0,\"pieces\":1,\"total\":5,\"words\":5},\"cat\":\"worker\",\"dur\":3,\"name\":\"worker\",\"ph\":\"X\",\"pid\":1,\"tid\":1,\"ts\":0}]}\n";
+
+/// The trace of the newest two of four spans, those of `a b c` in `abc.txt` by one worker.
+const NEWEST: &[u8] =
+    b"{\"displayTimeUnit\":\"ms\",\"otherData\":{\"accepted\":4,\"kept\":2},\"traceEvents\":[{\"args\":{\"name\":\"worker 1\"},\"name\":\"thread_name\",\"ph\":\"M\",\"pid\":1,\"tid\":1},{\"args\":{\"depth\":1,\"file\":0,\"piece\":2,\"total\":3,\"words\":1},\"cat\":\"piece\",\"dur\":1,\"name\":\"abc.txt\",\"ph\":\"X\",\"pid\":1,\"tid\":1,\"ts\":5},{\"args\":{\"words\":3},\"name\":\"words 1\",\"ph\":\"C\",\"pid\":1,\"tid\":1,\"ts\":6},{\"args\":{\"depth\":0,\"pieces\":3,\"total\":3,\"words\":3},\"cat\":\"worker\",\"dur\":7,\"name\":\"worker\",\"ph\":\"X\",\"pid\":1,\"tid\":1,\"ts\":0}]}\n";
 
 /// A run of the command over the file `ab.txt`, and what it leaves. The trace is given where it was worked out.
 #[derive(Clone, Copy)]
@@ -211,6 +220,26 @@ const CASES: &[Case] = &[
         ..DONE
     },
     Case {
+        words: &["--generate", "5", "--workers", "1"],
+        accepted: Some(2),
+        out: b"words 5 distinct 5\n1 w14\n1 w21\n1 w5\n1 w6\n1 w9\n",
+        trace: Some(GENERATED),
+        ..DONE
+    },
+    // The generated text comes first, and then the FILEs.
+    Case {
+        words: &["ab.txt", "--generate=2", "--workers", "1"],
+        accepted: Some(3),
+        out: b"words 5 distinct 4\n2 a\n1 b\n1 w2\n1 w3\n",
+        ..DONE
+    },
+    Case {
+        words: &["--generate", "2", "ab.txt", "no such.txt"],
+        detail: 2,
+        message: b"bbq-profile: cannot read no such.txt\n",
+        ..REFUSED
+    },
+    Case {
         bytes: &[97, 255, 0, 98, 10],
         out: b"words 1 distinct 1\n1 a\xff\x00b\n",
         ..DONE
@@ -308,6 +337,34 @@ fn leaves_what_was_worked_out_by_hand(rt: HostRuntime) -> Result<(), Fail> {
         let left = tried(&rt, alloc, case.words, "ab.txt", bytes, &case.world)?;
         is_left(&rt, &left, case);
     }
+    Ok(())
+}
+
+#[test]
+fn lists_the_newest_spans_of_a_queue_that_drops_the_oldest(rt: HostRuntime) -> Result<(), Fail> {
+    let alloc = rt.alloc();
+    let case = Case {
+        words: &[
+            "--mode",
+            "drop",
+            "--workers",
+            "1",
+            "--blocks",
+            "2",
+            "--size",
+            "1",
+            "--piece",
+            "1",
+            "abc.txt",
+        ],
+        accepted: Some(4),
+        out: b"words 3 distinct 3\n1 a\n1 b\n1 c\n",
+        trace: Some(NEWEST),
+        ..DONE
+    };
+    let bytes = Vec::from_slice(alloc, b"a b c")?;
+    let left = tried(&rt, alloc, case.words, "abc.txt", bytes, &AMPLE)?;
+    is_left(&rt, &left, &case);
     Ok(())
 }
 

@@ -4,13 +4,17 @@
 #[cfg(test)]
 mod command;
 #[cfg(test)]
+mod folded;
+#[cfg(test)]
+mod generated;
+#[cfg(test)]
 mod hands;
 #[cfg(test)]
 mod long_traces;
 #[cfg(test)]
-mod options;
-#[cfg(test)]
 mod outside;
+#[cfg(test)]
+mod read_traces;
 #[cfg(test)]
 mod reading;
 #[cfg(test)]
@@ -23,3 +27,5 @@ mod spellings;
 mod texts;
 #[cfg(test)]
 mod traces;
+#[cfg(test)]
+mod words;

@@ -70,7 +70,8 @@ pub fn put_by_all<R: Threads + Wait + Sync, Q: Rail>(
         &mut *seats,
         threads,
         &|_index, seat: &mut Q::Seat|
-            requires { IsSync R.row × Q.PutsInto queue.now seat.now × (Q.made seat.now ≡ []) × ((Q.shape_of queue.now).width ≡ 6) × (each ≤ 1000000) }
+            requires { IsSync R.row × Q.PutsInto queue.now seat.now × (Q.made seat.now ≡ [])
+                × ((Q.shape_of queue.now).width ≡ 6) × (each ≤ 1000000) }
         {
             let _most = queue.shape().most_puts();
             put_all(rt, queue, seat, each);

@@ -1,4 +1,4 @@
-//! Queues for many threads, by as many threads as fit.
+//! Queues for many threads, by four of them.
 ghost use Rattle.std.specs.Prelude.{◌≡◌, ℕ, ◌<◌, IsPermutation, length, map, slice_index_or};
 ghost use Rattle.std.specs.List.{All};
 ghost use Rattle.rail.specs.Outcome.{numbers_below};
@@ -52,7 +52,8 @@ fn one_more(count: &AtomicU64) {
     count.fetch_add(1, Ordering::SeqCst);
 }
 
-// What was put and what was taken at each place: 0 where nothing was, else one more than a number for the entry. And how the calls were answered.
+// What was put and what was taken at each place: 0 where nothing was, else one more than a number
+// for the entry. And how the calls were answered.
 #[derive(Drop)]
 struct Marks {
     put: Vec<AtomicU64>,
@@ -95,8 +96,8 @@ impl Marks {
         self.note(self.taken.as_slice(), place, words);
     }
 
-    // Each entry that is left lies at or above this place, and counts as one that is taken.
-    fn are_left(&self, left: &Batch, from: u64) -> bool {
+    // Notes what is left as taken, and answers whether all of it lies at or above this place.
+    fn note_left(&self, left: &Batch, from: u64) -> bool {
         let mut live = true;
         for item in left.as_slice() {
             live = live && item.place >= from;
@@ -120,7 +121,8 @@ impl Marks {
             && never.load(Ordering::SeqCst) == 0
     }
 
-    // Each place below `accepted` was put once, and taken once or not, but taken where it is not below `from`, with its words; and each seat's entries stand in its order.
+    // Each place below `accepted` was put once, and taken at most once, with its words; no place from
+    // `from` on is lost; and each seat's entries stand in its order.
     fn are_whole(&self, accepted: u64, from: u64) -> bool {
         let mut whole = self.twice.load(Ordering::SeqCst) == 0;
         let mut last = [0u64; 8];
@@ -205,7 +207,8 @@ fn take_once<Q: Rail>(queue: &Q, seat: &mut Q::Seat, marks: &Marks)
     }
 }
 
-// Tries as often as the case says, each time a put and then a take, where this seat does the one and the other.
+// Tries as often as the case says, each time a put and then a take, where this seat does the one and
+// the other.
 fn try_often<Q: Rail>(queue: &Q, seat: &mut Q::Seat, marks: &Marks, index: u64, case: &Case)
     requires puts { Q.PutsInto queue.now seat.old }
     requires takes { Q.TakesFrom queue.now seat.old }
@@ -237,15 +240,19 @@ fn run_each<R: Threads + Sync, Q: Rail>(
     requires width { (Q.shape_of queue.now).width ≡ 2 }
     ensures puts { All (Q.PutsInto queue.now) seats.new }
     ensures long { length seats.new ≡ length seats.old }
-    ensures numbers { (k : ℕ) (d : Q.Seat) → k < length seats.old → Q.number_of (slice_index_or seats.new k d) ≡ Q.number_of (slice_index_or seats.old k d) }
+    ensures numbers { (at : ℕ) (other : Q.Seat) → at < length seats.old
+        → Q.number_of (slice_index_or seats.new at other)
+        ≡ Q.number_of (slice_index_or seats.old at other) }
 {
     thread::for_each_mut(
         rt,
         seats,
         THREADS,
         &|index, seat: &mut Q::Seat|
-            requires { Q.PutsInto queue.now seat.now × Q.TakesFrom queue.now seat.now × ((Q.shape_of queue.now).width ≡ 2) }
-            ensures { Q.PutsInto queue.entry.now seat.exit.now × (Q.number_of seat.exit.now ≡ Q.number_of seat.entry.now) }
+            requires { Q.PutsInto queue.now seat.now × Q.TakesFrom queue.now seat.now
+                × ((Q.shape_of queue.now).width ≡ 2) }
+            ensures { Q.PutsInto queue.entry.now seat.exit.now
+                × (Q.number_of seat.exit.now ≡ Q.number_of seat.entry.now) }
         { try_often(queue, seat, marks, index as u64, case) },
     );
 }
@@ -275,7 +282,8 @@ fn passes<R: Threads + Sync, Q: Rail>(
 ) -> Result<bool, AllocError>
     requires puts { All (Q.PutsInto made.0) made.1.items }
     requires takes { All (Q.TakesFrom made.0) made.1.items }
-    requires all { IsPermutation (map Q.number_of made.1.items) (numbers_below (Q.shape_of made.0).seats) }
+    requires all { IsPermutation (map Q.number_of made.1.items)
+        (numbers_below (Q.shape_of made.0).seats) }
     requires width { (Q.shape_of made.0).width ≡ 2 }
 {
     let (queue, mut seats) = made;
@@ -295,7 +303,7 @@ fn passes<R: Threads + Sync, Q: Rail>(
     };
     let accepted = Q::accepted(&done);
     let from = case.kept_from::<Q>(accepted);
-    Ok(marks.are_left(Q::left(&done), from) && marks.are_whole(accepted, from))
+    Ok(marks.note_left(Q::left(&done), from) && marks.are_whole(accepted, from))
 }
 
 const CASES: [Case; 3] = [

@@ -15,7 +15,8 @@ use std::test::Fail;
 // A put of a word or a take, with its answer.
 type Call = (Option<u64>, Answer);
 
-// What the closed queue had: how many entries were accepted, and the places that are left, with their words.
+// What the closed queue had: how many entries were accepted, and the places that are left, with
+// their words.
 type Had<'a> = (u64, &'a [(u64, u64)]);
 
 // One call of the first seat.
@@ -48,7 +49,8 @@ fn answers_so<Q: Rail>(
     requires some { 0 < length made.1.items }
     requires puts { All (Q.PutsInto made.0) made.1.items }
     requires takes { All (Q.TakesFrom made.0) made.1.items }
-    requires all { IsPermutation (map Q.number_of made.1.items) (numbers_below (Q.shape_of made.0).seats) }
+    requires all { IsPermutation (map Q.number_of made.1.items)
+        (numbers_below (Q.shape_of made.0).seats) }
 {
     let (queue, mut seats) = made;
     for (word, want) in calls {

@@ -1,7 +1,7 @@
 use Rattle.std.proofs.Common.{List, ◌++◌, ◌∷◌, [], ℕ, subst}
 use Rattle.profile_cli.specs.Endings.{first_part}
 use Rattle.flow_io.specs.Saying.{Said}
-use Rattle.profile_cli.specs.Texts.{bytes_of}
+use Rattle.command_words.specs.Texts.{bytes_of}
 use Rattle.profile_cli.proofs.Said.{says_other}
 use Rattle.profile_cli.proofs.messages.say_ending.Goals as goal
 

@@ -1,14 +1,18 @@
-use Rattle.std.proofs.Common.{◌≡◌, List, map, length, ◌<◌, ◌^◌, refl, sym, subst, ap, ◌∙◌, arith}
+use Rattle.std.proofs.Common.{◌≡◌, List, [], true, map, length, ◌<◌, ◌^◌, refl, sym, subst, ap, ◌∙◌, arith}
 use Rattle.std.specs.Prelude.{flat_map, IsPermutation}
+use Rattle.std.specs.List.{All}
+use Rattle.cursor_word.specs.Shape.{IsWithinLimits}
+use Rattle.rail.specs.declared.entry.Placed.{Placed}
+use Rattle.span_recorder.specs.Events.{events_of}
 use Rattle.std.proofs.lemmas.List.Sorted.{IsPermutation-refl}
 use Rattle.rail.specs.Batch.{Gathered}
 use Rattle.word_text.specs.declared.plan.Piece.{Piece}
 use Rattle.word_workers.specs.Spans.{AllLieIn, plan_words}
-use Rattle.word_workers.specs.Trace.{RunTrace}
+use Rattle.word_workers.specs.Trace.{IsSpanOfSome, NamesText, RunTrace}
 use Rattle.word_text.proofs.Cuts.{plan_inside}
 use Rattle.word_workers.proofs.Plans.{plan_words-le}
 use Rattle.word_workers.proofs.Traces.{trace_of_run}
-use Rattle.profile_cli.proofs.Accepted.{events_accepted, files_accepted, gathered_accepted, gathered_apart, spans_below}
+use Rattle.profile_cli.proofs.Listed.{all_listed, enough, files_there, gathered_apart, gathered_listed, none_taken, outcome, shape_within, spans_below, spelled}
 use Rattle.profile_cli.proofs.Planned.{counts_of_plan}
 use Rattle.profile_cli.proofs.queue_run.run_through.Goals as goal
 
@@ -30,14 +34,18 @@ pub gather-requires : goal.gather-requires
 gather-requires g c =
     let done = c.in-Ok.ensures in
     let batches = subst (λ (bs : List Gathered). IsPermutation (flat_map (λ (b : Gathered). b.items) bs) (flat_map g.Q.Rail.taken c.in_ok-work.work.seats.items)) (sym c.as_slice.ensures.value) c.in_ok-work.ensures.batches in
-    record { apart = gathered_apart _ _ _ _ _ _ _ done.accepted batches done.taken (done.retry c.requires.keeps) c.left.ensures }
+    let none : g.Q.Rail.DROPS ≡ true → flat_map g.Q.Rail.taken c.in_ok-work.work.seats.items ≡ [] = λ drops. none_taken g.Q.Rail.taken _ (c.in_ok-work.ensures.drops drops) in
+    record { apart = gathered_apart _ _ _ _ _ _ _ _ done.accepted batches done.taken c.left.ensures g.Q.Rail.DROPS done.retry done.drop none }
 
 pub decoded-requires : goal.decoded-requires
 decoded-requires g c =
     let done = c.in-Ok.ensures in
     let batches = subst (λ (bs : List Gathered). IsPermutation (flat_map (λ (b : Gathered). b.items) bs) (flat_map g.Q.Rail.taken c.in_ok-work.work.seats.items)) (sym c.as_slice.ensures.value) c.in_ok-work.ensures.batches in
-    let same = gathered_accepted _ _ _ _ _ _ _ done.accepted batches done.taken (done.retry c.requires.keeps) c.left.ensures _ c.in_ok-list.ensures.order c.in_ok-list.ensures.all in
-    spans_below c.args.options.now.workers _ _ _ c.requires.limits.most_workers c.in_ok-work.ensures.makes.all_spans done.accepted.all_made same
+    let none : g.Q.Rail.DROPS ≡ true → flat_map g.Q.Rail.taken c.in_ok-work.work.seats.items ≡ [] = λ drops. none_taken g.Q.Rail.taken _ (c.in_ok-work.ensures.drops drops) in
+    let same = gathered_listed _ _ _ _ _ _ _ _ done.accepted batches done.taken c.left.ensures g.Q.Rail.DROPS done.retry done.drop none _ c.in_ok-list.ensures.order c.in_ok-list.ensures.all in
+    let spans : Placed → Type 0 = λ i. IsSpanOfSome c.args.options.now.workers i.words in
+    spans_below c.args.options.now.workers _ c.requires.limits.most_workers
+    (subst (All spans) (sym same) (all_listed _ _ _ _ _ _ _ _ done.accepted batches done.taken c.left.ensures g.Q.Rail.DROPS done.retry done.drop none spans c.in_ok-work.ensures.makes.all_spans))
 
 pub returns-clause-counts : goal.returns-clause-counts
 returns-clause-counts g c =
@@ -45,12 +53,17 @@ returns-clause-counts g c =
 
 pub returns-clause-queue : goal.returns-clause-queue
 returns-clause-queue g c =
-    let run = trace_of_run _ _ _ _ _ _ _ c.in_ok-work.ensures.makes c.in-Ok.ensures.accepted in
+    let done = c.in-Ok.ensures in
+    let batches = subst (λ (bs : List Gathered). IsPermutation (flat_map (λ (b : Gathered). b.items) bs) (flat_map g.Q.Rail.taken c.in_ok-work.work.seats.items)) (sym c.as_slice.ensures.value) c.in_ok-work.ensures.batches in
+    let none : g.Q.Rail.DROPS ≡ true → flat_map g.Q.Rail.taken c.in_ok-work.work.seats.items ≡ [] = λ drops. none_taken g.Q.Rail.taken _ (c.in_ok-work.ensures.drops drops) in
+    let run = trace_of_run _ _ _ _ _ _ _ c.in_ok-work.ensures.makes done.accepted in
+    let shape = done.shape ∙ c.requires.shape in
     record {
-      mode = refl;
-      shape = c.in-Ok.ensures.shape ∙ c.requires.shape;
-      order = c.in-Ok.ensures.accepted.no_gap;
-      outcome = c.in-Ok.ensures.retry c.requires.keeps;
+      mode = sym c.requires.mode;
+      shape = shape;
+      order = done.accepted.no_gap;
+      outcome = outcome _ _ _ _ _ _ _ _ done.accepted batches done.taken c.left.ensures g.Q.Rail.DROPS done.retry done.drop none;
+      enough = enough _ _ _ _ _ _ _ _ done.accepted batches done.taken c.left.ensures g.Q.Rail.DROPS done.retry done.drop none (subst IsWithinLimits (sym shape) (shape_within c.args.options.now c.requires.limits));
       run = subst (λ (plan : List Piece). RunTrace (g.Q.Rail.done_accepted c.in-Ok.done) c.args.options.now.workers plan c.args.texts.now (g.C.Clock.ticks c.args.clock.now)) c.requires.plan run;
     }
 
@@ -58,12 +71,15 @@ pub returns-clause-events : goal.returns-clause-events
 returns-clause-events g c =
     let done = c.in-Ok.ensures in
     let batches = subst (λ (bs : List Gathered). IsPermutation (flat_map (λ (b : Gathered). b.items) bs) (flat_map g.Q.Rail.taken c.in_ok-work.work.seats.items)) (sym c.as_slice.ensures.value) c.in_ok-work.ensures.batches in
-    let same = gathered_accepted _ _ _ _ _ _ _ done.accepted batches done.taken (done.retry c.requires.keeps) c.left.ensures _ c.in_ok-list.ensures.order c.in_ok-list.ensures.all in
-    events_accepted _ _ _ same c.in_ok-events.ensures
+    let none : g.Q.Rail.DROPS ≡ true → flat_map g.Q.Rail.taken c.in_ok-work.work.seats.items ≡ [] = λ drops. none_taken g.Q.Rail.taken _ (c.in_ok-work.ensures.drops drops) in
+    let same = gathered_listed _ _ _ _ _ _ _ _ done.accepted batches done.taken c.left.ensures g.Q.Rail.DROPS done.retry done.drop none _ c.in_ok-list.ensures.order c.in_ok-list.ensures.all in
+    spelled _ _ c.in_ok-events.ensures ∙ ap events_of same
 
 pub returns-clause-files : goal.returns-clause-files
 returns-clause-files g c =
     let done = c.in-Ok.ensures in
     let batches = subst (λ (bs : List Gathered). IsPermutation (flat_map (λ (b : Gathered). b.items) bs) (flat_map g.Q.Rail.taken c.in_ok-work.work.seats.items)) (sym c.as_slice.ensures.value) c.in_ok-work.ensures.batches in
-    let same = gathered_accepted _ _ _ _ _ _ _ done.accepted batches done.taken (done.retry c.requires.keeps) c.left.ensures _ c.in_ok-list.ensures.order c.in_ok-list.ensures.all in
-    files_accepted _ _ _ _ _ c.in_ok-work.ensures.files done.accepted.all_made same c.in_ok-events.ensures
+    let none : g.Q.Rail.DROPS ≡ true → flat_map g.Q.Rail.taken c.in_ok-work.work.seats.items ≡ [] = λ drops. none_taken g.Q.Rail.taken _ (c.in_ok-work.ensures.drops drops) in
+    let same = gathered_listed _ _ _ _ _ _ _ _ done.accepted batches done.taken c.left.ensures g.Q.Rail.DROPS done.retry done.drop none _ c.in_ok-list.ensures.order c.in_ok-list.ensures.all in
+    let named : Placed → Type 0 = λ i. NamesText (length c.args.texts.now) i.words in
+    files_there _ _ _ (subst (All named) (sym same) (all_listed _ _ _ _ _ _ _ _ done.accepted batches done.taken c.left.ensures g.Q.Rail.DROPS done.retry done.drop none named c.in_ok-work.ensures.files)) c.in_ok-events.ensures

@@ -1,0 +1,5 @@
+mod Entries
+pub mod Lines
+mod Nested
+mod Stacks
+mod Times
