@@ -1,6 +1,4 @@
 //! A long trace goes out in many writes.
-ghost use Rattle.std.specs.Prelude.{◌≡◌, None, Unit};
-
 use flow_io::{Sink, Took};
 use span_words::{SpanEvent, SpanKind};
 use std::test::Fail;
@@ -15,7 +13,7 @@ struct Offers {
 }
 
 impl Sink for Offers {
-    ghost use Rattle.std.specs.Prelude.{None, Unit};
+    ghost use Rattle.std.specs.Prelude.{None};
 
     ghost faults = { λ _. 0 };
 

@@ -3,7 +3,7 @@ ghost use Rattle.std.specs.Prelude.{◌≡◌, [], false, true, map, flat_map, I
 ghost use Rattle.std.specs.List.{All};
 ghost use Rattle.rail.specs.Outcome.{DropOutcome, IsAccepted, RetryOutcome, numbers_below};
 ghost use Rattle.rail.specs.Items.{IsRising, places};
-ghost use Rattle.profile_tests.specs.Scripted.{made_of};
+ghost use Rattle.profile_tests.specs.Scripted.{made_of, nothing};
 
 use cursor_word::{Cursor, Shape};
 use rail::{Answer, Batch, Entry, Placed, Put, Rail, Refused, Take, Why};
@@ -55,7 +55,7 @@ pub struct Unclosed {
 
 impl Rail for Scripted {
     ghost use Rattle.std.specs.Prelude.{◌≡◌, [], ◌∷◌, false, ⊤};
-    ghost use Rattle.profile_tests.specs.Scripted.{made_of};
+    ghost use Rattle.profile_tests.specs.Scripted.{made_of, nothing};
 
     type Seat = Script;
 
@@ -79,7 +79,7 @@ impl Rail for Scripted {
 
     ghost made = { λ seat. made_of seat.made };
 
-    ghost taken = { λ seat. [] };
+    ghost taken = { λ seat. nothing };
 
     ghost told = { λ seat. record { found = 0 ∷ 1 ∷ []; answer = seat.last } };
 
@@ -87,7 +87,7 @@ impl Rail for Scripted {
 
     ghost done_accepted = { λ done. done.left.items };
 
-    ghost done_taken = { λ done. [] };
+    ghost done_taken = { λ done. nothing };
 
     ghost done_left = { λ done. done.left.items };
 
@@ -133,12 +133,12 @@ impl Rail for Scripted {
         ensures accepted { IfOk result (λ done. IsAccepted
             (flat_map (λ (s : Script). made_of s.made) seats.items) done.left.items) }
         ensures taken { IfOk result (λ done. IsPermutation
-            (flat_map (λ (s : Script). []) seats.items) []) }
-        ensures order { IfOk result (λ done. IsRising (places [])) }
+            (flat_map (λ (s : Script). nothing) seats.items) nothing) }
+        ensures order { IfOk result (λ done. IsRising (places nothing)) }
         ensures retry { false ≡ false → IfOk result
-            (λ done. RetryOutcome done.left.items [] done.left.items) }
+            (λ done. RetryOutcome done.left.items nothing done.left.items) }
         ensures drop { false ≡ true → IfOk result
-            (λ done. DropOutcome done.shape done.left.items [] done.left.items) }
+            (λ done. DropOutcome done.shape done.left.items nothing done.left.items) }
         ensures refused { IfErr result (λ refused.
             (refused.rail ≡ self) × (refused.seats.items ≡ seats.items)) }
     {

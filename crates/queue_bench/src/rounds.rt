@@ -1,5 +1,5 @@
 //! Rounds of all queues one after the other.
-ghost use Rattle.std.specs.Prelude.{◌≡◌, ◌≤◌, IfOk};
+ghost use Rattle.std.specs.Prelude.{◌≡◌, ◌<◌, ◌≤◌, IfOk};
 
 use crate::kit::{kit_overwrite_pass, kit_overwrites, kit_pairs, kit_pass};
 use crate::pairs::{pairs, puts};
