@@ -1,5 +1,5 @@
 //! What the command answers with ample memory, on worked texts and with a source or a sink that fails.
-use flow_io::{MemClock, MemSink, MemSource, MemStore};
+use flow_io::{Clock, MemClock, MemSink, MemSource, MemStore};
 use profile_cli::{Closed, SoloRails, profile};
 use rail::Rail;
 use solo_rail::{SoloDrop, SoloRetry};
@@ -35,7 +35,7 @@ pub(crate) const AMPLE: World = World {
     trace_room: 1 << 16,
 };
 
-/// A run of these words, over one file in memory.
+/// A run of these words, over one file in memory, by a clock that counts from 0 by ones.
 pub(crate) fn tried<X: Threads + Wait + Sync>(
     rt: &X,
     alloc: Global,
@@ -43,6 +43,20 @@ pub(crate) fn tried<X: Threads + Wait + Sync>(
     name: &str,
     bytes: Vec<u8>,
     world: &World<'_>,
+) -> Result<Left, AllocError> {
+    let clock = MemClock { next: 0, step: 1 };
+    tried_by(rt, alloc, words, name, bytes, world, &clock)
+}
+
+/// A run of these words by this clock.
+pub(crate) fn tried_by<X: Threads + Wait + Sync, C: Clock>(
+    rt: &X,
+    alloc: Global,
+    words: &[&str],
+    name: &str,
+    bytes: Vec<u8>,
+    world: &World<'_>,
+    clock: &C,
 ) -> Result<Left, AllocError> {
     let mut asked = Vec::new(alloc);
     for word in words {
@@ -55,7 +69,6 @@ pub(crate) fn tried<X: Threads + Wait + Sync>(
     let mut out = MemSink::new(alloc, world.room, 7, Vec::new(alloc))?;
     let mut messages = MemSink::new(alloc, 100, 7, Vec::new(alloc))?;
     let mut trace = MemStore::new(alloc, 2, world.trace_room, 7, Vec::new(alloc))?;
-    let clock = MemClock { next: 0, step: 1 };
     let report = profile(
         rt,
         alloc,
@@ -64,7 +77,7 @@ pub(crate) fn tried<X: Threads + Wait + Sync>(
         &mut out,
         &mut messages,
         &mut trace,
-        &clock,
+        clock,
         &NoGate,
         &SoloRails,
     );

@@ -1,15 +1,7 @@
 //! Which worker reads which hand of the clock.
-ghost use Rattle.std.specs.Prelude.{◌≡◌, None};
-
-use cursor_word::Shape;
+use crate::command::{AMPLE, tried_by};
 use flow_io::{Clock, MemClock, MemHand};
-use rail::Rail;
-use solo_rail::SoloRetry;
-use span_words::{SPAN_WORDS, decode};
-use std::alloc::AllocError;
 use std::test::Fail;
-use word_text::Plan;
-use word_workers::{NoGate, run_all};
 
 /// A clock whose hands start a thousand apart.
 struct Apart;
@@ -30,20 +22,23 @@ impl Clock for Apart {
     }
 }
 
+/// The trace of an empty file by two workers.
+const APART: &[u8] =
+    b"{\"displayTimeUnit\":\"ms\",\"otherData\":{\"accepted\":2,\"kept\":2},\"traceEvents\":[{\"args\":{\"name\":\"worker 1\"},\"name\":\"thread_name\",\"ph\":\"M\",\"pid\":1,\"tid\":1},{\"args\":{\"name\":\"worker 2\"},\"name\":\"thread_name\",\"ph\":\"M\",\"pid\":1,\"tid\":2},{\"args\":{\"depth\":0,\"pieces\":0,\"total\":0,\"words\":0},\"cat\":\"worker\",\"dur\":1,\"name\":\"worker\",\"ph\":\"X\",\"pid\":1,\"tid\":1,\"ts\":0},{\"args\":{\"depth\":0,\"pieces\":0,\"total\":0,\"words\":0},\"cat\":\"worker\",\"dur\":1,\"name\":\"worker\",\"ph\":\"X\",\"pid\":1,\"tid\":2,\"ts\":1000}]}\n";
+
 #[test]
 fn each_worker_reads_its_own_hand(rt: HostRuntime) -> Result<(), Fail> {
     let alloc = rt.alloc();
-    let (rail, seat) = SoloRetry::make(alloc, Shape::new(2, 4, SPAN_WORDS as u64, 1)?)?;
-    let mut seats = Vec::new(alloc);
-    seats.push(seat)?;
-    let plan = Plan::new(alloc);
-    let work = run_all(&rt, alloc, &plan, &[], 3, &rail, seats, &Apart, &NoGate)?;
-    let done = rail.close(alloc, work.seats).map_err(|_| AllocError)?;
-    let left = SoloRetry::left(&done).as_slice();
-    assert_eq!(rt; left.len(), 3);
-    for (worker, item) in (0..3).zip(left) {
-        let event = decode(item.words.words())?;
-        assert_eq!(rt; (event.tid, event.ts), (worker + 1, worker * 1000));
-    }
+    let words = ["--workers", "2", "ab.txt"];
+    let left = tried_by(
+        &rt,
+        alloc,
+        &words,
+        "ab.txt",
+        Vec::new(alloc),
+        &AMPLE,
+        &Apart,
+    )?;
+    assert_eq!(rt; left.trace.bytes(0), Some(APART));
     Ok(())
 }

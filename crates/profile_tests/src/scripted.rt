@@ -1,7 +1,8 @@
 //! A queue that answers its puts by a list, and counts its calls.
-ghost use Rattle.std.specs.Prelude.{◌≡◌, [], false, true, map, flat_map, IfOk, IfErr, IsPermutation};
-ghost use Rattle.std.specs.List.{All};
-ghost use Rattle.rail.specs.Outcome.{DropOutcome, IsAccepted, RetryOutcome, numbers_below};
+ghost use Rattle.std.specs.Prelude.{◌≡◌, [], ◌∷◌, false, true, flat_map, length, IfOk, IfErr, IsPermutation};
+ghost use Rattle.rail.specs.Outcome.{DropOutcome, IsAccepted, RetryOutcome};
+ghost use Rattle.rail.specs.Rail.{Puts};
+ghost use Rattle.rail.specs.Told.{Shows};
 ghost use Rattle.rail.specs.Items.{IsRising, places};
 ghost use Rattle.profile_tests.specs.Scripted.{made_of, nothing};
 
@@ -22,13 +23,18 @@ const NOWHERE: Cursor = Cursor {
     offset: 0,
 };
 
-const MOVED: Why = Why::Moved {
-    earlier: NOWHERE,
-    later: Cursor {
-        block: 1,
-        offset: 0,
-    },
-};
+// Two values that each call finds, and which differ.
+fn moved() -> Why
+    ensures { Shows (0 ∷ 1 ∷ []) result }
+{
+    Why::Moved {
+        earlier: NOWHERE,
+        later: Cursor {
+            block: 1,
+            offset: 0,
+        },
+    }
+}
 
 /// A queue of one seat that accepts one entry and gives none out.
 #[derive(Drop)]
@@ -51,6 +57,35 @@ pub struct Script {
 pub struct Unclosed {
     pub shape: Shape,
     pub left: Batch,
+}
+
+impl Script {
+    // What the next put answers, by the list.
+    fn put_next(&mut self, shape: &Shape, entry: &[u64]) -> Put
+        requires width { length entry.now ≡ shape.now.width }
+        ensures answer { Puts shape.now false entry.now (made_of self.old.made)
+            (made_of self.new.made) (0 ∷ 1 ∷ []) result }
+    {
+        let _width = shape.width();
+        let says = self.says.pop();
+        if self.made.is_some() {
+            return Put::Busy(moved());
+        }
+        match says {
+            Some(Says::Ok) => {
+                self.made = Some(Placed {
+                    place: 0,
+                    words: Entry::new(entry),
+                });
+                Put::Ok(0)
+            }
+            Some(Says::Full) => Put::Full {
+                head: shape.blocks(),
+                consumed: NOWHERE,
+            },
+            _ => Put::Busy(moved()),
+        }
+    }
 }
 
 impl Rail for Scripted {
@@ -97,29 +132,15 @@ impl Rail for Scripted {
     }
 
     fn put(&self, seat: &mut Script, entry: &[u64]) -> Put {
-        let _width = self.shape.width();
         seat.puts = seat.puts.saturating_add(1);
-        let answer = match (seat.says.pop(), seat.made) {
-            (Some(Says::Ok), None) => {
-                seat.made = Some(Placed {
-                    place: 0,
-                    words: Entry::new(entry),
-                });
-                Put::Ok(0)
-            }
-            (Some(Says::Full), None) => Put::Full {
-                head: self.shape.blocks(),
-                consumed: NOWHERE,
-            },
-            _ => Put::Busy(MOVED),
-        };
+        let answer = seat.put_next(&self.shape, entry);
         seat.last = Some(Answer::Put(answer));
         answer
     }
 
     fn take(&self, seat: &mut Script, _out: &mut [u64]) -> Take {
         seat.takes = seat.takes.saturating_add(1);
-        let answer = Take::Busy(MOVED);
+        let answer = Take::Busy(moved());
         seat.last = Some(Answer::Take(answer));
         answer
     }
