@@ -10,8 +10,6 @@ mod generated;
 #[cfg(test)]
 mod hands;
 #[cfg(test)]
-mod long_traces;
-#[cfg(test)]
 mod outside;
 #[cfg(test)]
 mod read_traces;
