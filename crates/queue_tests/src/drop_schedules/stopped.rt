@@ -98,12 +98,12 @@ fn a_put_stops_while_it_opens_a_block(rt: HostRuntime) -> Result<(), Fail> {
         found: &opening_put(),
         answer: put_ok(1),
     };
-    let others = [
-        whole(Y, put(9), put_ok(1)),
-        whole(Y, Start::Take, take_ok(0)),
-        whole(Y, put(10), put_ok(2)),
-    ];
     for done in 2..7 {
+        let others = [
+            whole(Y, put(9), put_ok(1)),
+            whole(Y, Start::Take, take_ok(0)),
+            whole(Y, put(10), put_ok(2)),
+        ];
         let late = put_busy(moved((2, 1), (4, 1)));
         goes_on(&rt, rt.alloc(), &stop, done, &others, late)?;
     }
@@ -135,11 +135,11 @@ fn a_take_stops_while_it_opens_a_block(rt: HostRuntime) -> Result<(), Fail> {
         ],
         answer: take_ok(1),
     };
-    let others = [
-        whole(Y, Start::Take, take_ok(1)),
-        whole(Y, put(9), put_ok(2)),
-    ];
     for done in 3..7 {
+        let others = [
+            whole(Y, Start::Take, take_ok(1)),
+            whole(Y, put(9), put_ok(2)),
+        ];
         let late = take_busy(moved((2, 1), (3, 1)));
         goes_on(&rt, rt.alloc(), &stop, done, &others, late)?;
     }
