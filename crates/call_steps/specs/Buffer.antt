@@ -2,10 +2,10 @@
 use Rattle.std.specs.Prelude.{◌≡◌, ℕ, List, [], slice_set, take}
 use Rattle.machine.specs.Table.{Reading, Unread, Whole, Word}
 
--- the buffer after a step that found n
+-- the buffer after a step that found this value
 abbrev pub out_after : Reading → List ℕ → ℕ → List ℕ
-out_after (Word next) out n = slice_set out next n
-out_after reading out n = out
+out_after (Word next) out value = slice_set out next value
+out_after reading out value = out
 
 -- the words that a take has read stand in the front of its buffer, which is as it was before
 abbrev pub Gathers : Reading → List ℕ → List ℕ → List ℕ → Type 0

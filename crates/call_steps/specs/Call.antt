@@ -16,43 +16,45 @@ use Rattle.machine.specs.declared.op.After.TheVariants.{Next, Done}
 use Rattle.machine.specs.Table.{Table}
 use Rattle.call_steps.specs.Rule.{Rule, logged, value_of}
 
--- These steps lead from s to b: each is the step that its phase wants, and the value that it found
--- leads on, by the machine's table. No step follows an answer.
-module _ {P : Type 0} (t : Table P) (g : Grid) (entry : List ℕ) where
+-- These steps lead from the first to the last: each is the step that its phase wants, and the value
+-- that it found leads on, by the machine's table. No step follows an answer.
+module _ {P : Type 0} (table : Table P) (shape : Grid) (entry : List ℕ) where
   abbrev pub Leads : After P → List Step → After P → Type 0
-  Leads s [] b = s ≡ b
-  Leads (Next p) (k ∷ ks) b = (k ≡ logged (t.want g p entry) (value_of k))
-      × Leads (t.after g p (value_of k)) ks b
-  Leads (Done a) (k ∷ ks) b = ⊥
+  Leads first [] last = first ≡ last
+  Leads (Next phase) (step ∷ steps) last =
+      (step ≡ logged (table.want shape phase entry) (value_of step))
+      × Leads (table.after shape phase (value_of step)) steps last
+  Leads (Done result) (step ∷ steps) last = ⊥
 
 -- The walk of a seat's view through these steps, with what the rule told at each.
-module _ {P V : Type 0} (t : Table P) (r : Rule P V) (g : Grid) where
+module _ {P V : Type 0} (table : Table P) (rule : Rule P V) (shape : Grid) where
   abbrev pub Walks : After P → V → List Step → V → Type 0
-  Walks s v [] w = v ≡ w
-  Walks (Next p) v (k ∷ ks) w = r.Tells v p (value_of k)
-      × Walks (t.after g p (value_of k)) (r.moves_to v p (value_of k)) ks w
-  Walks (Done a) v (k ∷ ks) w = ⊥
+  Walks first view [] last = view ≡ last
+  Walks (Next phase) view (step ∷ steps) last = rule.Tells view phase (value_of step)
+      × Walks (table.after shape phase (value_of step)) (rule.moves_to view phase (value_of step))
+      steps last
+  Walks (Done result) view (step ∷ steps) last = ⊥
 
 -- A call that began at this phase took these steps, each once and no other, and they lead to
 -- exactly this answer.
-pub record TookSteps {P : Type 0} (t : Table P) (g : Grid) (entry : List ℕ) (first : P)
+pub record TookSteps {P : Type 0} (table : Table P) (shape : Grid) (entry : List ℕ) (first : P)
     (steps : List Step) (answer : Answer) (found : List ℕ)
     (old_log new_log : List Step) : Type 0 where
-  pub leads : Leads t g entry (Next first) steps (Done answer)
+  pub leads : Leads table shape entry (Next first) steps (Done answer)
   pub values : found ≡ map value_of steps
   pub log : new_log ≡ old_log ++ steps
-  pub few : length steps ≤ t.rank g first
+  pub few : length steps ≤ table.rank shape first
 
 -- what a put of this entry leaves in the made list, and a take in the taken list and in its
 -- caller's buffer
 abbrev pub PutLeaves : List Placed → List Placed → List ℕ → Put → Type 0
 PutLeaves old new entry (put.Ok place) = new ≡ old ++ placed place entry ∷ []
-PutLeaves old new entry a = new ≡ old
+PutLeaves old new entry result = new ≡ old
 
 abbrev pub TakeLeaves : List Placed → List Placed → List ℕ → List ℕ → Take → Type 0
 TakeLeaves old new out_old out (take.Ok place) = new ≡ old ++ placed place out ∷ []
 TakeLeaves old new out_old out (take.Overrun place now) = new ≡ old
-TakeLeaves old new out_old out a = (new ≡ old) × (out ≡ out_old)
+TakeLeaves old new out_old out result = (new ≡ old) × (out ≡ out_old)
 
 -- a seat at rest after a put
 pub record HasPut {P : Type 0} (entry : List ℕ) (old new : View P) (result : Put) : Type 0 where

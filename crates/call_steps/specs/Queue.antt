@@ -42,11 +42,11 @@ module _ {P : Type 0} where
 -- how many entries an answer adds to what its seat made, and to what it took
 abbrev pub puts_by : Put → ℕ
 puts_by (put.Ok place) = 1
-puts_by a = 0
+puts_by answer = 0
 
 abbrev pub takes_by : Take → ℕ
 takes_by (take.Ok place) = 1
-takes_by a = 0
+takes_by answer = 0
 
 -- a closed queue: its lists, in order of place
 pub record Closed : Type 0 where

@@ -7,11 +7,9 @@ mod counts;
 mod left;
 mod operation;
 mod rule;
-mod start;
 
 pub use calls::{run_put, run_take};
 pub use counts::{puts_after, takes_after};
 pub use left::{read_left, read_unreserved};
 pub use operation::operate;
 pub use rule::{Call, MachineRule, NextStep};
-pub use start::start_words;

@@ -2,14 +2,15 @@ ghost use Rattle.std.specs.Prelude.{◌≡◌, ℕ, ◌<◌, ◌≤◌, ◌↔�
 ghost use Rattle.std.specs.List.{AllByRecursion};
 ghost use Rattle.cursor_word.specs.Cursor.{most_puts};
 ghost use Rattle.cursor_word.specs.Layout.{word_count};
-ghost use Rattle.machine.specs.Steps.{Suits, begun, go, goes, is_mid_call, resting, run, start_state, start_words, step, turned, view_of};
+ghost use Rattle.machine.specs.Steps.{Suits, begun, go, goes, is_mid_call, resting, run, start_state, step, turned, view_of};
 ghost use Rattle.machine.specs.Bounds.{call_bound};
 ghost use Rattle.machine.specs.Invariant.{CanStep};
 
 use crate::event::{Event, Start};
 use crate::phase::Phase;
 use crate::seat::Seat;
-use cursor_word::{Shape, start_word};
+use crate::start::start_words;
+use cursor_word::Shape;
 use rail::{Answer, Batch};
 use std::alloc::{AllocError, Global};
 use std::marker::Model;
@@ -48,7 +49,7 @@ impl<P: Phase> State<P> {
     {
         P::keeps();
         let _blocks = shape.blocks();
-        let words = words_at_start(alloc, &shape)?;
+        let words = start_words(alloc, &shape)?;
         let seats = seats_at_rest(alloc, &shape)?;
         Ok(State {
             shape,
@@ -163,17 +164,6 @@ pub fn run<P: Phase>(alloc: Global, shape: Shape, events: &[Event]) -> Result<St
         state.step(event)?;
     }
     Ok(state)
-}
-
-// The words at their start.
-fn words_at_start(alloc: Global, shape: &Shape) -> Result<Vec<u64>, AllocError>
-    ensures { IfOk result (λ words. words.items ≡ start_words shape.now) }
-{
-    let mut words = Vec::new(alloc);
-    for index in 0..shape.words() {
-        words.push(start_word(shape, index))?;
-    }
-    Ok(words)
 }
 
 // All seats at rest.

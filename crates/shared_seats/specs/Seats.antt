@@ -15,8 +15,8 @@ use Rattle.shared_seats.specs.declared.holding.Holding.{Holding}
 
 -- the item of a place
 abbrev pub item_at : List Placed → ℕ → Placed
-item_at [] p = placed p []
-item_at (x ∷ xs) p = if x.place == p then x else item_at xs p
+item_at [] place = placed place []
+item_at (item ∷ items) place = if item.place == place then item else item_at items place
 
 -- items whose places are the first numbers, in order of place
 abbrev pub in_order : List Placed → List Placed
@@ -25,22 +25,22 @@ in_order items = map (item_at items) (numbers_below (length items))
 module _ {P : Type 0} where
   -- what all seats made and took, and what the machine knows of them
   abbrev pub made_by_all : List (Seated P) → List Placed
-  made_by_all seats = flat_map (λ (s : Seated P). s.view.made) seats
+  made_by_all seats = flat_map (λ (seat : Seated P). seat.view.made) seats
 
   abbrev pub taken_by_all : List (Seated P) → List Placed
-  taken_by_all seats = flat_map (λ (s : Seated P). s.view.taken) seats
+  taken_by_all seats = flat_map (λ (seat : Seated P). seat.view.taken) seats
 
   abbrev pub views_of_all : List (Seated P) → List (View P)
-  views_of_all seats = map (λ (s : Seated P). s.view) seats
+  views_of_all seats = map (λ (seat : Seated P). seat.view) seats
 
 -- no step is done any more: these are the words, and all seats are at rest with these views
-pub record HasStopped {P : Type 0} (t : Table P) (Holds : Fact P) (g : Grid) (words : List ℕ)
-    (views : List (View P)) : Type 0 where
-  pub limits : IsWithinLimits g
-  pub holds : Holds g words views
-  pub all : length views ≡ g.seats
+pub record HasStopped {P : Type 0} (table : Table P) (Holds : Fact P) (shape : Grid)
+    (words : List ℕ) (views : List (View P)) : Type 0 where
+  pub limits : IsWithinLimits shape
+  pub holds : Holds shape words views
+  pub all : length views ≡ shape.seats
   pub rest : AllRest views
-  pub few : (j : ℕ) (v : View P) → slice_get views j ≡ Some v → HasRoom t g v
+  pub few : (at : ℕ) (view : View P) → slice_get views at ≡ Some view → HasRoom table shape view
 
 -- one seat has taken in those of the list that no longer stand in `left`
 pub record Gathering {P : Type 0} (of : Queue) (all : Sitting (Holding P))
@@ -50,4 +50,4 @@ pub record Gathering {P : Type 0} (of : Queue) (all : Sitting (Holding P))
   pub views : IsPermutation (views_of_all seats) (all.view.views ++ views_of_all left)
   pub rest : AllRest all.view.views
   pub some_views : 0 < length all.view.views
-  pub own : All (λ s. (s.of.id ≡ of.id) × (s.of.shape ≡ of.shape)) left
+  pub own : All (λ seat. (seat.of.id ≡ of.id) × (seat.of.shape ≡ of.shape)) left

@@ -14,44 +14,47 @@ use Rattle.solo_rail.specs.declared.holding.Holding.{Holding}
 use Rattle.solo_rail.specs.Lone.{LoneFacts}
 
 abbrev pub holding : {P : Type 0} → Grid → View P → List ℕ → Holding P
-holding g v words = record { shape = g; view = v; words = words }
+holding shape view words = record { shape = shape; view = view; words = words }
 
-pub record IsHeld {P : Type 0} (t : Table P) (lone : LoneFacts P) (g : Grid) (words : List ℕ)
+pub record IsHeld {P : Type 0} (table : Table P) (lone : LoneFacts P) (grid : Grid) (words : List ℕ)
     (holdings : List (Holding P)) : Type 0 where
   pub seat : Holding P
   pub only : holdings ≡ seat ∷ []
-  pub limits : IsWithinLimits g
-  pub shape : seat.shape ≡ g
+  pub limits : IsWithinLimits grid
+  pub shape : seat.shape ≡ grid
   pub known : seat.words ≡ words
-  pub room : HasRoom t g seat.view
-  pub stands : lone.Stands g words seat.view
+  pub room : HasRoom table grid seat.view
+  pub stands : lone.Stands grid words seat.view
 
-module _ {P : Type 0} (t : Table P) where
+module _ {P : Type 0} (table : Table P) where
   -- the seat begins a call, and does the step of a phase
   abbrev pub begins_call : Holding P → Start → Holding P
-  begins_call h call = holding h.shape (begun t h.shape h.view None call) h.words
+  begins_call held call = holding held.shape (begun table held.shape held.view None call) held.words
 
   abbrev pub does_step : Holding P → P → ℕ → Holding P
-  does_step h p n =
-      holding h.shape (seen t h.shape h.view p n) (words_after t h.shape h.words h.view p)
+  does_step held phase value =
+      holding held.shape (seen table held.shape held.view phase value)
+      (words_after table held.shape held.words held.view phase)
 
   module _ (drops : Bool) (lone : LoneFacts P) where
     -- what the rule tells of a step: that the next may be done, and that an answer is exact and
     -- what the queue promises
-    pub record TellsAlone (h : Holding P) (p : P) (n : ℕ) : Type 0 where
-      pub may : MayFind t h.shape p n
-      pub exact : (a : Answer)
-          → t.after h.shape p n ≡ Done a → lone.Answers h.shape h.view.made h.view.taken a
-      pub promised : (a : Answer)
-          → t.after h.shape p n ≡ Done a → HasTrail t h.shape h.view p
-          → Promises h.shape drops h.view (seen t h.shape h.view p n) a
+    pub record TellsAlone (held : Holding P) (phase : P) (value : ℕ) : Type 0 where
+      pub may : MayFind table held.shape phase value
+      pub exact : (answer : Answer)
+          → table.after held.shape phase value ≡ Done answer
+          → lone.Answers held.shape held.view.made held.view.taken answer
+      pub promised : (answer : Answer)
+          → table.after held.shape phase value ≡ Done answer
+          → HasTrail table held.shape held.view phase
+          → Promises held.shape drops held.view (seen table held.shape held.view phase value) answer
 
     abbrev pub alone_rule : Rule P (Holding P)
     alone_rule =
         record {
-          grid_of = λ h. h.shape;
-          view_of = λ h. h.view;
-          Sits = λ h. Unit {0};
+          grid_of = λ held. held.shape;
+          view_of = λ held. held.view;
+          Sits = λ held. Unit {0};
           begins = begins_call;
           moves_to = does_step;
           Tells = TellsAlone;
@@ -59,7 +62,7 @@ module _ {P : Type 0} (t : Table P) where
 
 -- at the start
 abbrev pub first_holding : (P : Type 0) → Grid → Holding P
-first_holding P g = holding g (resting P g) (start_words g)
+first_holding P shape = holding shape (resting P shape) (start_words shape)
 
 -- no seat is ever taken in
 abbrev pub no_holding : (P : Type 0) → Holding P

@@ -19,18 +19,23 @@ pub record LoneFacts (P : Type 0) : Type 1 where
 
 -- The one seat stands so from the start on, with the invariant, and each answer is exact. Steps are
 -- asked about only where the queue has room for all that the seat made.
-pub record AnswersExactly {P : Type 0} (t : Table P) (Holds : Fact P)
+pub record AnswersExactly {P : Type 0} (table : Table P) (Holds : Fact P)
     (lone : LoneFacts P) : Type 0 where
-  pub holds : (g : Grid) (ws : List ℕ) (v : View P) → lone.Stands g ws v → Holds g ws (v ∷ [])
-  pub starts : (g : Grid)
-      → IsWithinLimits g → g.seats ≡ 1 → lone.Stands g (start_words g) (resting P g)
-  pub begins : (g : Grid) (ws : List ℕ) (v : View P) (call : Start)
-      → IsWithinLimits g → IsWide g call → v.phase ≡ None → lone.Stands g ws v
-      → lone.Stands g ws (begun t g v None call)
-  pub steps : (g : Grid) (ws : List ℕ) (v : View P) (p : P)
-      → IsWithinLimits g → length v.made ≤ place_span g → v.phase ≡ Some p → lone.Stands g ws v
-      → lone.Stands g (words_after t g ws v p) (view_after t g ws v p)
-  pub answers : (g : Grid) (ws : List ℕ) (v : View P) (p : P) (a : Answer)
-      → IsWithinLimits g → length v.made ≤ place_span g → v.phase ≡ Some p → lone.Stands g ws v
-      → t.after g p (finds t g ws v p) ≡ Done a
-      → lone.Answers g v.made v.taken a
+  pub holds : (shape : Grid) (words : List ℕ) (view : View P) → lone.Stands shape words view
+      → Holds shape words (view ∷ [])
+  pub starts : (shape : Grid)
+      → IsWithinLimits shape → shape.seats ≡ 1
+      → lone.Stands shape (start_words shape) (resting P shape)
+  pub begins : (shape : Grid) (words : List ℕ) (view : View P) (call : Start)
+      → IsWithinLimits shape → IsWide shape call → view.phase ≡ None → lone.Stands shape words view
+      → lone.Stands shape words (begun table shape view None call)
+  pub steps : (shape : Grid) (words : List ℕ) (view : View P) (phase : P)
+      → IsWithinLimits shape → length view.made ≤ place_span shape → view.phase ≡ Some phase
+      → lone.Stands shape words view
+      → lone.Stands shape (words_after table shape words view phase)
+      (view_after table shape words view phase)
+  pub answers : (shape : Grid) (words : List ℕ) (view : View P) (phase : P) (answer : Answer)
+      → IsWithinLimits shape → length view.made ≤ place_span shape → view.phase ≡ Some phase
+      → lone.Stands shape words view
+      → table.after shape phase (finds table shape words view phase) ≡ Done answer
+      → lone.Answers shape view.made view.taken answer

@@ -8,12 +8,14 @@ use Rattle.solo_rail.specs.Lone.{LoneFacts}
 
 -- at rest, or alone in a call
 abbrev pub Stands : Grid → List ℕ → View → Option Phase → Type 0
-Stands g words v None = IsStill g (length v.made) (length v.taken) words (v ∷ [])
-Stands g words v (Some p) = IsAlone g (length v.made) (length v.taken) words (v ∷ []) 0 p
+Stands shape words view None =
+    IsStill shape (length view.made) (length view.taken) words (view ∷ [])
+Stands shape words view (Some phase) =
+    IsAlone shape (length view.made) (length view.taken) words (view ∷ []) 0 phase
 
 abbrev pub lone : LoneFacts Phase
 lone =
     record {
-      Stands = λ g words v. Stands g words v v.phase;
-      Answers = λ g made taken a. AnswersAlone g (length made) (length taken) a;
+      Stands = λ shape words view. Stands shape words view view.phase;
+      Answers = λ shape made taken answer. AnswersAlone shape (length made) (length taken) answer;
     }

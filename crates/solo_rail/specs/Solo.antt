@@ -11,9 +11,9 @@ abbrev pub number_of : {P : Type 0} → Seated P → ℕ
 number_of seat = 0
 
 -- no step is done any more: these are the words, and the one seat is at rest with this view
-pub record HasStopped {P : Type 0} (Holds : Fact P) (g : Grid) (words : List ℕ)
+pub record HasStopped {P : Type 0} (Holds : Fact P) (shape : Grid) (words : List ℕ)
     (view : View P) : Type 0 where
-  pub limits : IsWithinLimits g
-  pub holds : Holds g words (view ∷ [])
+  pub limits : IsWithinLimits shape
+  pub holds : Holds shape words (view ∷ [])
   pub rest : view.phase ≡ None
-  pub few : length view.made ≤ most_puts g
+  pub few : length view.made ≤ most_puts shape

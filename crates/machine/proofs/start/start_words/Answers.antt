@@ -1,7 +1,7 @@
 use Rattle.std.proofs.Common.{arith}
 use Rattle.std.proofs.lemmas.List.FromFn.{map-range_with_len_more}
 use Rattle.cursor_word.specs.Layout.{start_at}
-use Rattle.call_steps.proofs.start.start_words.Goals as goal
+use Rattle.machine.proofs.start.start_words.Goals as goal
 
 pub loop-index-preserved : goal.loop-index-preserved
 loop-index-preserved c =
