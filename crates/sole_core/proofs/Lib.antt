@@ -1,0 +1,16 @@
+pub mod PutSteps
+pub mod Frames
+pub mod Facts
+pub mod Loads
+pub mod TakeLoads
+pub mod Consumes
+pub mod Puts
+pub mod Steps
+pub mod Starts
+pub mod Ready
+pub mod Keeping
+pub mod Small
+pub mod Takings
+pub mod Reached
+pub mod Settles
+pub mod StepBound
