@@ -1,7 +1,7 @@
 -- The consumer moves on: the consumed cursor is raised past the entry.
-use Rattle.std.proofs.Common.{◌≡◌, ◌≢◌, ℕ, zero, suc, ◌⊎◌, inr, ◌+◌, ◌*◌, ◌/◌, ◌%◌, ◌<◌, ◌≤◌, max, List, [], ◌∷◌, ◌++◌, length, refl, sym, ap, ◌∙◌, subst, inl, ⊎_elim, arith}
+use Rattle.std.proofs.Common.{◌≡◌, ◌≢◌, ℕ, suc, ◌⊎◌, inr, ◌+◌, ◌*◌, ◌%◌, ◌<◌, ◌≤◌, max, List, [], ◌∷◌, ◌++◌, length, refl, sym, ap, ◌∙◌, subst, inl, ⊎_elim, arith}
 use Rattle.std.specs.Prelude.{Some, slice_get, slice_set, slice_index}
-use Rattle.std.specs.List.{range_with_len, sum_by}
+use Rattle.std.specs.List.{sum_by}
 use Rattle.put_side.specs.Counts.{makes}
 use Rattle.std.proofs.lemmas.List.{length-set, get_or-set_same, get_or-set_other, map-append}
 use Rattle.std.proofs.lemmas.Bool.{cases_eq, cases_lt}
@@ -32,7 +32,7 @@ use Rattle.sole_core.specs.Types.{View}
 use Rattle.sole_core.specs.Table.{consumer, table}
 use Rattle.sole_core.specs.Stage.{stage, stage_of}
 use Rattle.sole_core.specs.Cursors.{TakeWords, consumed_word}
-use Rattle.sole_core.specs.Sound.{IsSoundAt, OnlyPuts, TakeFits, scene}
+use Rattle.sole_core.specs.Sound.{IsSoundAt, TakeFits, scene}
 use Rattle.sole_core.proofs.Facts.{few_made, one_on}
 use Rattle.sole_core.proofs.Frames.{IsLater, fits_later, is_consumer}
 use Rattle.sole_core.proofs.TakeLoads.{knows_at}

@@ -1,5 +1,5 @@
 -- What a seat remembers lasts, since words and made lists only grow; and what stays where a step takes nothing.
-use Rattle.std.proofs.Common.{◌≡◌, ◌≢◌, ℕ, ◌+◌, ◌<◌, ◌≤◌, List, refl, sym, ap, ◌∙◌, subst, ⊎_elim, arith}
+use Rattle.std.proofs.Common.{◌≡◌, ℕ, ◌+◌, ◌<◌, ◌≤◌, List, refl, sym, ap, ◌∙◌, subst, ⊎_elim, arith}
 use Rattle.std.specs.Prelude.{Option, Some, slice_get, slice_set}
 use Rattle.std.proofs.lemmas.Bool.{cases_eq}
 use Rattle.cursor_word.specs.Shape.{Grid}
@@ -18,7 +18,7 @@ use Rattle.sole_core.specs.declared.take_phase.SoleTake.TheVariants.{Com, All, W
 use Rattle.sole_core.specs.Types.{View}
 use Rattle.sole_core.specs.Stage.{stage_of}
 use Rattle.sole_core.specs.Table.{consumer}
-use Rattle.sole_core.specs.Cursors.{IsUnmoved, TakeWords, consumed_word}
+use Rattle.sole_core.specs.Cursors.{IsUnmoved, consumed_word}
 use Rattle.sole_core.specs.Sound.{IsSoundAt, Knows, OnlyPuts, TakeFits, TakeKnows, scene}
 
 -- later words and views: the cursors that seats remember only grow, and so does what is made

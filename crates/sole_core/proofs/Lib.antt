@@ -14,3 +14,9 @@ pub mod Takings
 pub mod Reached
 pub mod Settles
 pub mod StepBound
+pub mod Outcomes
+pub mod Recalled
+pub mod Shown
+pub mod Trails
+pub mod CallTable
+pub mod Promised

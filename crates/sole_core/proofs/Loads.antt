@@ -1,12 +1,11 @@
 -- Steps that change no word: of a put that looks at the older block, and of a take.
-use Rattle.std.proofs.Common.{◌≡◌, ℕ, ◌+◌, ◌*◌, ◌/◌, ◌%◌, ◌<◌, ◌≤◌, ◌≢◌, List, [], ◌∷◌, ◌++◌, Bool, true, false, refl, sym, ap, ◌∙◌, subst, inl, ⊎_elim, arith}
+use Rattle.std.proofs.Common.{◌≡◌, ℕ, ◌+◌, ◌*◌, ◌/◌, ◌%◌, ◌<◌, ◌≤◌, ◌≢◌, List, [], ◌∷◌, ◌++◌, Bool, true, false, refl, sym, ap, subst, inl, ⊎_elim, arith}
 use Rattle.std.specs.Prelude.{Some, slice_get, slice_set, slice_index, if◌then◌else◌, nat_lt, ◌==◌, ◌&&◌}
 use Rattle.std.proofs.lemmas.Bool.Decides.{eqb_tells}
 use Rattle.std.proofs.lemmas.List.{set-get_or}
-use Rattle.cursor_word.specs.Shape.{Grid, IsWithinLimits}
+use Rattle.cursor_word.specs.Shape.{Grid}
 use Rattle.cursor_word.specs.Cursor.{cursor_of, offset_span, packed, unpacked}
 use Rattle.cursor_word.specs.declared.cursor.Cursor.{Cursor}
-use Rattle.rail.specs.declared.entry.Placed.{Placed}
 use Rattle.rail.specs.declared.answer.Answer.TheVariants as answer
 use Rattle.rail.specs.declared.answer.Put.TheVariants as put
 use Rattle.rail.specs.declared.answer.Answer.{Answer}
@@ -14,7 +13,7 @@ use Rattle.rail.specs.Items.{places}
 use Rattle.machine.specs.declared.op.After.TheVariants.{Next, Done}
 use Rattle.machine.specs.Steps.{answer_after, made_after, phase_after, taken_after, view_after, words_after}
 use Rattle.machine.proofs.Lists.{one_le_sum}
-use Rattle.put_side.specs.Cursors.{Front, place, put_cursors}
+use Rattle.put_side.specs.Cursors.{Front, put_cursors}
 use Rattle.put_side.specs.Counts.{times}
 use Rattle.put_side.specs.Stages as stages
 use Rattle.put_side.specs.Stages.{PutStage}

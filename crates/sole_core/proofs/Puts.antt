@@ -1,5 +1,5 @@
 -- The shared steps of a put keep the invariant.
-use Rattle.std.proofs.Common.{◌≡◌, ℕ, ◌+◌, ◌-◌, ◌%◌, ◌<◌, ◌≤◌, ◌⊎◌, List, [], ◌++◌, Bool, true, false, refl, sym, ap, ◌∙◌, subst, ⊎_elim, arith}
+use Rattle.std.proofs.Common.{◌≡◌, ℕ, ◌+◌, ◌-◌, ◌%◌, ◌<◌, ◌≤◌, List, Bool, true, false, refl, ap, ◌∙◌, subst, ⊎_elim, arith}
 use Rattle.std.specs.Prelude.{Some, slice_get, slice_set, if◌then◌else◌, nat_lt, ◌==◌}
 use Rattle.std.specs.List.{sum_by}
 use Rattle.cursor_word.specs.Shape.{Grid, IsWithinLimits}
@@ -16,7 +16,7 @@ use Rattle.put_side.specs.Stages as stages
 use Rattle.put_side.specs.PutTable.{IsShared, MayOpen}
 use Rattle.put_side.proofs.Sums.{upto_from, upto_le}
 use Rattle.put_side.proofs.Facts.{physical}
-use Rattle.put_side.proofs.Keeps.{IsKept, OpensNext, keeps_shared}
+use Rattle.put_side.proofs.Keeps.{IsKept, keeps_shared}
 use Rattle.put_side.proofs.Moves.{IsMovedByPuts}
 use Rattle.put_side.proofs.Made.{step_keeps_made}
 use Rattle.sole_core.specs.declared.phase.SolePhase.{SolePhase}

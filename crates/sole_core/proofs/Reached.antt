@@ -1,5 +1,5 @@
 -- What holds at each moment of each schedule.
-use Rattle.std.proofs.Common.{◌≡◌, ℕ, ◌<◌, List, length, sym, ap, ◌∙◌}
+use Rattle.std.proofs.Common.{ℕ, ◌<◌, List, length, sym, ap, ◌∙◌}
 use Rattle.std.specs.List.{AllByRecursion}
 use Rattle.cursor_word.specs.Cursor.{most_puts}
 use Rattle.cursor_word.specs.Shape.{Grid, IsWithinLimits}

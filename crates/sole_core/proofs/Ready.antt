@@ -2,7 +2,7 @@
 use Rattle.std.proofs.Common.{◌≡◌, ℕ, ◌+◌, ◌/◌, ◌%◌, ◌<◌, ◌≤◌, List, subst, ap, inl, inr, sym, arith}
 use Rattle.std.specs.Prelude.{Some, slice_get, nat_le, nat_lt, ◌==◌}
 use Rattle.cursor_word.specs.Shape.{Grid, IsWithinLimits}
-use Rattle.cursor_word.specs.Cursor.{cursor_of, most_block, offset_span, packed, place_at, place_span, unpacked}
+use Rattle.cursor_word.specs.Cursor.{cursor_of, most_block, offset_span, packed, place_span, unpacked}
 use Rattle.cursor_word.specs.declared.cursor.Cursor.{Cursor}
 use Rattle.cursor_word.proofs.Places.{block_of_place_from, block_of_place_to, offset_of_place}
 use Rattle.rail.specs.Items.{placed}

@@ -1,8 +1,7 @@
 -- Where all seats are at rest, what was made is what was taken and then what is left in the words.
-use Rattle.std.proofs.Common.{◌≡◌, ℕ, ◌+◌, ◌-◌, ◌/◌, ◌<◌, ◌≤◌, List, ◌++◌, length, get_or, take, drop, refl, sym, ap, ◌∙◌, subst, ⊎_elim, arith}
-use Rattle.std.specs.Prelude.{Option, None, Contains, IsPermutation}
-use Rattle.std.specs.List.{sum_by}
-use Rattle.std.proofs.lemmas.List.{get_or-drop, get_or-take, length-drop, length-map, length-take-le, same_lists}
+use Rattle.std.proofs.Common.{◌≡◌, ℕ, ◌+◌, ◌-◌, ◌<◌, ◌≤◌, List, length, get_or, take, drop, refl, sym, ap, ◌∙◌, subst, ⊎_elim, arith}
+use Rattle.std.specs.Prelude.{Contains, IsPermutation}
+use Rattle.std.proofs.lemmas.List.{get_or-drop, get_or-take, length-drop, length-take-le, same_lists}
 use Rattle.std.proofs.lemmas.List.FromFn.{get_or-map-range_with_len, length-map-range_with_len}
 use Rattle.cursor_word.specs.Shape.{Grid, IsWithinLimits}
 use Rattle.cursor_word.specs.Cursor.{cursor_of}
@@ -19,12 +18,10 @@ use Rattle.put_side.specs.Counts.{one_below, times}
 use Rattle.machine.specs.Entries.{entry_at}
 use Rattle.put_side.specs.Gathered.{all_made, all_taken}
 use Rattle.put_side.specs.PutTable.{stage_in}
-use Rattle.put_side.proofs.Sums.{sum_alike}
 use Rattle.put_side.proofs.Orders.{InOrder, in_order, order_length, stands_at, stands_from}
 use Rattle.put_side.proofs.Gathers.{StandsIn, has_in, stands_in, times_all}
 use Rattle.put_side.proofs.Rests.{NonePuts, claims_all, claims_number, made_at}
 use Rattle.put_side.proofs.Stores.{made_block}
-use Rattle.sole_core.specs.declared.phase.SolePhase.{SolePhase}
 use Rattle.sole_core.specs.Types.{MachineState, View}
 use Rattle.sole_core.specs.Stage.{stage, stage_of}
 use Rattle.sole_core.specs.Counts.{taken_total}

@@ -1,10 +1,9 @@
 -- No cursor word overflows.
-use Rattle.std.proofs.Common.{◌≡◌, ℕ, ◌+◌, ◌*◌, ◌/◌, ◌%◌, ◌<◌, ◌≤◌, List, sym, ap, ◌∙◌, ⊎_elim, arith}
-use Rattle.std.specs.Prelude.{slice_index}
+use Rattle.std.proofs.Common.{◌≡◌, ℕ, ◌/◌, ◌%◌, ◌<◌, ◌≤◌, List, sym, ap, ◌∙◌, ⊎_elim, arith}
 use Rattle.std.proofs.lemmas.Bool.{cases_lt}
 use Rattle.std.proofs.Math.Nat.{mod_self, mod-eq_of_lt}
 use Rattle.cursor_word.specs.Shape.{Grid, IsWithinLimits}
-use Rattle.cursor_word.specs.Cursor.{block_span, cursor_of, offset_span, place_span}
+use Rattle.cursor_word.specs.Cursor.{offset_span, place_span}
 use Rattle.cursor_word.proofs.Places.{block_of_place_to, offset_of_place}
 use Rattle.machine.specs.Invariant.{made_total}
 use Rattle.machine.specs.Steps.{start_words}

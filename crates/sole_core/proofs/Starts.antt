@@ -1,13 +1,13 @@
 -- Calls that begin keep the invariant, and it holds at the start.
-use Rattle.std.proofs.Common.{◌≡◌, ℕ, ◌+◌, ◌-◌, ◌*◌, ◌/◌, ◌%◌, ◌<◌, ◌≤◌, List, [], length, min, replicate, refl, sym, ap, ◌∙◌, subst, ⊎_elim, arith}
-use Rattle.std.specs.Prelude.{Some, None, slice_get, slice_set, slice_index}
+use Rattle.std.proofs.Common.{◌≡◌, ℕ, ◌+◌, ◌-◌, ◌*◌, ◌%◌, ◌<◌, ◌≤◌, List, length, min, replicate, refl, sym, ap, ◌∙◌, subst, ⊎_elim, arith}
+use Rattle.std.specs.Prelude.{Some, None, slice_get, slice_set}
 use Rattle.std.proofs.lemmas.Bool.{cases_lt}
 use Rattle.std.proofs.lemmas.List.{length-map}
 use Rattle.std.proofs.lemmas.List.FromFn.{length-range_with_len}
 use Rattle.std.proofs.lemmas.Nat.{mod_below}
 use Rattle.std.proofs.Math.Nat.{mod-mod, mod_self, mod-eq_of_lt}
 use Rattle.cursor_word.specs.Shape.{Grid, IsWithinLimits}
-use Rattle.cursor_word.specs.Cursor.{cursor, cursor_of, offset_span, packed, place_at, place_span}
+use Rattle.cursor_word.specs.Cursor.{cursor, cursor_of, offset_span, place_at, place_span}
 use Rattle.cursor_word.specs.declared.cursor.Cursor.{Cursor}
 use Rattle.cursor_word.proofs.Places.{cursor_of_place}
 use Rattle.rail.specs.declared.entry.Placed.{Placed}
@@ -23,14 +23,13 @@ use Rattle.put_side.specs.PutSide.{PutSide}
 use Rattle.put_side.specs.Stages as stages
 use Rattle.put_side.specs.PutTable.{stage_in}
 use Rattle.put_side.proofs.Facts.{physical}
-use Rattle.put_side.proofs.Begins.{begins_away, begins_put, start_front, start_manned, start_side, start_word_is, starts_at}
+use Rattle.put_side.proofs.Begins.{begins_away, begins_put, start_front, start_manned, start_side, starts_at}
 use Rattle.put_side.proofs.Made.{made_same}
 use Rattle.put_side.proofs.Owns.{manned_own}
 use Rattle.sole_core.specs.declared.phase.SolePhase.{SolePhase}
 use Rattle.sole_core.specs.declared.phase.SolePhase.TheVariants.{Take}
 use Rattle.sole_core.specs.declared.take_phase.SoleTake.{SoleTake}
 use Rattle.sole_core.specs.Types.{View}
-use Rattle.sole_core.specs.TakeSteps.{next_cursor}
 use Rattle.sole_core.specs.Table.{MayBegin, consumer, table}
 use Rattle.sole_core.specs.Stage.{stage, stage_of}
 use Rattle.sole_core.specs.Cursors.{TakeWords, consumed_word}

@@ -1,6 +1,6 @@
 -- A call ends within its bound, since the rank of its phase falls at each step.
 use Rattle.std.proofs.Common.{◌≡◌, ℕ, ◌+◌, ◌-◌, ◌/◌, ◌%◌, ◌<◌, ◌≤◌, refl, ap, subst, arith}
-use Rattle.std.specs.Prelude.{Bool, true, false, if◌then◌else◌}
+use Rattle.std.specs.Prelude.{if◌then◌else◌}
 use Rattle.cursor_word.specs.Shape.{Grid}
 use Rattle.cursor_word.specs.Cursor.{offset_span, packed, unpacked}
 use Rattle.cursor_word.specs.declared.cursor.Cursor.{Cursor}
@@ -16,7 +16,7 @@ use Rattle.sole_core.specs.TakeSteps.{by_turn}
 use Rattle.sole_core.specs.Laws.{steps_of_answer, steps_of_phase}
 use Rattle.put_side.proofs.Sums.{by_test_le}
 use Rattle.machine.specs.Bounds as bounds
-use Rattle.machine.specs.Bounds.{IsBounded}
+use Rattle.machine.specs.Bounds.{IsBounded, IsRanked, call_bound}
 use Rattle.sole_core.specs.Table.{table}
 use Rattle.sole_core.proofs.Loads.{by_equal, pick_equal, pick_less, pick_same}
 
@@ -61,3 +61,35 @@ leads g (Take (Consume c)) old r = (omega arith, refl)
 
 pub bounded : IsBounded table steps_of_phase steps_of_answer
 bounded = record { first_put = λ g. omega arith; first_take = λ g taken. omega arith; leads = leads }
+
+abbrev LeadsOn : Grid → SolePhase → After → Type 0
+LeadsOn g p b = Leads g (rank g p) (steps_of_phase g p) b
+
+some_from : (g : Grid) (p : SolePhase) (b : After) → LeadsOn g p b → 1 ≤ rank g p
+some_from g p (Next q) l = let r = l.0 in omega arith
+some_from g p (Done a) l = l.0
+
+turn_within : (turn a b most : ℕ) → a ≤ most → b ≤ most → by_turn turn a b ≤ most
+turn_within turn a b most h l = by_equal turn 1 (λ c. (if c then a else b) ≤ most) (λ e. h) (λ n. l)
+
+within : (g : Grid) (p : SolePhase) → rank g p ≤ call_bound g
+within g (HeadP turn first) = turn_within turn (g.width + 11) (g.width + 4) (g.width + 12) (omega arith) (omega arith)
+within g (SeeA turn first head) = turn_within turn (g.width + 10) (g.width + 3) (g.width + 12) (omega arith) (omega arith)
+within g (AddA turn first head) = turn_within turn (g.width + 9) (g.width + 2) (g.width + 12) (omega arith) (omega arith)
+within g (Write at next) = omega arith
+within g (Commit at) = omega arith
+within g (SeeX full) = omega arith
+within g (OpenM full) = omega arith
+within g (OpenA full) = omega arith
+within g (RaiseP full) = omega arith
+within g (Take (Com r)) = omega arith
+within g (Take (All r m)) = omega arith
+within g (Take (Word r next)) = omega arith
+within g (Take (Consume r)) = omega arith
+
+pub ranked : IsRanked table
+ranked = record {
+  some_left = λ g p range. some_from g p (after g p 0) (leads g p 0 range);
+  within = λ g p range. within g p;
+  falls = λ g p next found range is. (subst (LeadsOn g p) is (leads g p found range)).0;
+}

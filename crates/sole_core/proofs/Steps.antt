@@ -1,5 +1,5 @@
 -- Each step keeps the invariant: one law for the shared steps of a put, and one for each kind of the queue's own.
-use Rattle.std.proofs.Common.{◌≡◌, ℕ, ◌+◌, ◌*◌, ◌%◌, ◌<◌, ◌≤◌, ◌⊎◌, List, refl, sym, ap, subst, inl, inr, arith}
+use Rattle.std.proofs.Common.{◌≡◌, ℕ, ◌+◌, ◌*◌, ◌%◌, ◌<◌, ◌≤◌, ◌⊎◌, List, refl, sym, ap, subst, inl}
 use Rattle.std.specs.Prelude.{Some, slice_get, slice_set, slice_index}
 use Rattle.std.proofs.lemmas.List.{set-get_or}
 use Rattle.cursor_word.specs.Shape.{Grid, IsWithinLimits}

@@ -28,8 +28,8 @@ use Rattle.sole_core.specs.Types.{After, View}
 use Rattle.sole_core.specs.TakeSteps.{after_take}
 use Rattle.sole_core.specs.Table.{table}
 use Rattle.sole_core.specs.Stage.{stage_of}
-use Rattle.sole_core.specs.Sound.{IsReadOf, IsSoundAt, Knows, TakeKnows, cursor_in, scene}
-use Rattle.sole_core.proofs.Loads.{IsNextOwn, answers, go_on, loads, pick_any, pick_equal, pick_less, pick_same}
+use Rattle.sole_core.specs.Sound.{IsSoundAt, Knows, TakeKnows, cursor_in, scene}
+use Rattle.sole_core.proofs.Loads.{IsNextOwn, answers, go_on, loads, pick_equal, pick_less, pick_same}
 use Rattle.sole_core.proofs.Facts.{each_once, made_once, opened_or_next}
 
 module _ (g : Grid) (limits : IsWithinLimits g) (front : Front) (next : ℕ) (ws : List ℕ) (vs : List View) (s : IsSoundAt g front next ws vs) where

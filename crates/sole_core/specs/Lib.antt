@@ -8,3 +8,5 @@ pub mod Counts
 pub mod Sound
 pub mod Laws
 pub mod Gathered
+pub mod Moments
+pub mod Causes

@@ -1,5 +1,5 @@
 -- The steps of a take: which step each phase does, what follows it, and how many steps may follow.
-use Rattle.std.specs.Prelude.{◌≡◌, ℕ, ◌+◌, ◌-◌, ◌*◌, ◌/◌, ◌%◌, ◌<◌, ◌≤◌, ◌⊎◌, List, length, min, nat_lt, if◌then◌else◌, ◌==◌, ◌&&◌, Bool}
+use Rattle.std.specs.Prelude.{◌≡◌, ℕ, ◌+◌, ◌-◌, ◌/◌, ◌%◌, ◌<◌, ◌≤◌, ◌⊎◌, List, length, min, nat_lt, if◌then◌else◌, ◌==◌, ◌&&◌, Bool}
 use Rattle.cursor_word.specs.Shape.{Grid, IsWithinLimits}
 use Rattle.cursor_word.specs.Cursor.{cursor_of, most_block, offset_span, packed, place_at, place_span, unpacked}
 use Rattle.cursor_word.specs.Layout.{index_of, allocated, committed, consumed, entry}
