@@ -1,0 +1,12 @@
+pub mod TakeSteps
+pub mod PutSteps
+pub mod Types
+pub mod Table
+pub mod Stage
+pub mod Cursors
+pub mod Counts
+pub mod Sound
+pub mod Laws
+pub mod Gathered
+pub mod Moments
+pub mod Causes

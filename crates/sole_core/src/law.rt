@@ -1,0 +1,63 @@
+ghost use Rattle.std.specs.Prelude.{◌≡◌, ℕ, ◌+◌, ◌<◌, ◌≤◌, Some, length};
+ghost use Rattle.std.specs.List.{AllByRecursion};
+ghost use Rattle.cursor_word.specs.Cursor.{most_puts};
+ghost use Rattle.sole_core.specs.declared.phase.SolePhase.{SolePhase};
+ghost use Rattle.sole_core.specs.Types.{View};
+ghost use Rattle.machine.specs.declared.op.After.TheVariants.{Next};
+ghost use Rattle.sole_core.specs.PutSteps.{IsInRange, after, rank};
+ghost use Rattle.sole_core.specs.Table.{table};
+ghost use Rattle.machine.specs.Steps.{AllRest, Suits};
+ghost use Rattle.machine.specs.Moments.{moment, seat_at};
+ghost use Rattle.sole_core.specs.Cursors.{IsUnmoved};
+ghost use Rattle.sole_core.specs.Laws.{MadeRises, NoneElseTakes, PlacesAreDense, TakenInOrder, TakenIsMade, WordsAreSmall, most_steps, steps_of_phase};
+ghost use Rattle.sole_core.specs.Gathered.{IsSettled};
+
+use cursor_word::Shape;
+use machine::Event;
+
+/// At each moment of each schedule the places that were made or are held are dense, each seat's made
+/// places rise, no word overflows, and the words of reserved places stay as they start.
+pub fn sole_law_accepted(shape: &Shape, events: &[Event])
+    requires suits { AllByRecursion (Suits table shape.now) events.now }
+    requires few { length events.now < most_puts shape.now }
+    ensures dense { (n : ℕ)
+        → PlacesAreDense shape.now (moment table shape.now events.now n).views }
+    ensures rising { (n : ℕ) → MadeRises (moment table shape.now events.now n).views }
+    ensures small { (n : ℕ)
+        → WordsAreSmall shape.now (moment table shape.now events.now n).words }
+    ensures unmoved { (n : ℕ) → IsUnmoved shape.now (moment table shape.now events.now n).words }
+{
+    let _blocks = shape.blocks();
+}
+
+/// At each moment of each schedule each taken entry is a made one, and the consumer has taken the
+/// first places in order. Where all seats are at rest, what was taken are the first of the accepted
+/// entries, and the words have the rest.
+pub fn sole_law_taken(shape: &Shape, events: &[Event])
+    requires suits { AllByRecursion (Suits table shape.now) events.now }
+    requires few { length events.now < most_puts shape.now }
+    ensures made { (n : ℕ) → TakenIsMade (moment table shape.now events.now n).views }
+    ensures in_order { (n : ℕ) → TakenInOrder (moment table shape.now events.now n).views }
+    ensures none_else { (n : ℕ) → NoneElseTakes (moment table shape.now events.now n).views }
+    ensures outcome { (n : ℕ) → AllRest (moment table shape.now events.now n).views
+        → IsSettled shape.now (moment table shape.now events.now n) }
+{
+    let _blocks = shape.blocks();
+}
+
+/// In each schedule each call ends within its bound: the rank of its phase falls at each step, and
+/// leaves room for the steps that follow.
+pub fn sole_law_steps(shape: &Shape, events: &[Event])
+    requires suits { AllByRecursion (Suits table shape.now) events.now }
+    requires few { length events.now < most_puts shape.now }
+    ensures bound { (n seat : ℕ) (view : View)
+        → seat_at table shape.now events.now n seat ≡ Some view
+        → length view.trail ≤ most_steps shape.now view.phase view.answer }
+    ensures rank { (n seat : ℕ) (view : View) (p : SolePhase)
+        → seat_at table shape.now events.now n seat ≡ Some view → view.phase ≡ Some p
+        → length view.trail + rank shape.now p ≤ steps_of_phase shape.now p }
+    ensures falls { (p next : SolePhase) (old : ℕ) → IsInRange shape.now p
+        → after shape.now p old ≡ Next next → rank shape.now next < rank shape.now p }
+{
+    let _blocks = shape.blocks();
+}

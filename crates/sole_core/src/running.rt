@@ -1,0 +1,27 @@
+//! The phases as those of calls that run over shared words.
+ghost use Rattle.std.specs.Prelude.{false};
+
+use crate::phase::SolePhase;
+use crate::take_phase::SoleTake;
+use call_laws::CallPhase;
+
+impl CallPhase for SolePhase {
+    ghost drops = { false };
+
+    #[inline(always)]
+    fn usual_step(&self) -> u64 {
+        match *self {
+            SolePhase::HeadP { .. } => 0,
+            SolePhase::SeeA { .. } => 1,
+            SolePhase::AddA { .. } => 2,
+            SolePhase::Write { .. } => 3,
+            SolePhase::Take(SoleTake::Com { .. }) => 0,
+            SolePhase::Take(SoleTake::All { .. }) => 1,
+            SolePhase::Take(SoleTake::Word { .. }) => 2,
+            SolePhase::Take(SoleTake::Consume { .. }) => 3,
+            _ => 6,
+        }
+    }
+
+    fn calls() {}
+}
