@@ -20,3 +20,11 @@ pub mod Shown
 pub mod Trails
 pub mod CallTable
 pub mod Promised
+pub mod InTime
+pub mod CallKinds
+pub mod Lone
+pub mod LoneSteps
+pub mod Alone
+pub mod AloneTakes
+pub mod AloneCalls
+pub mod LoneLaw

@@ -86,7 +86,7 @@ module _ (g : Grid) (front : Front) (next : ℕ) (ws : List ℕ) (vs : List View
   c = cursor_of g next
 
   -- all places up to the end of a filled block are allocated, and no other is, where the next block may not be opened
-  full_at : (full : Cursor) → IsFilled g (put_cursors g ws) full → consumed_word g ws (full.block + 1) < older_consumed g full.block → (front.last ≡ full.block) × (front.next ≡ place g (full.block + 1) 0)
+  pub full_at : (full : Cursor) → IsFilled g (put_cursors g ws) full → consumed_word g ws (full.block + 1) < older_consumed g full.block → (front.last ≡ full.block) × (front.next ≡ place g (full.block + 1) 0)
   full_at full f less =
       let words = s.puts.places.words in
       let to = filled_opened words limits.blocks_from (physical g ws 2) full f in
@@ -134,7 +134,7 @@ module _ (g : Grid) (front : Front) (next : ℕ) (ws : List ℕ) (vs : List View
       )
 
   -- where the committed cursor is that of the next place, or of an earlier block, nothing was made there
-  none_there : committed_word g ws c.block ≡ packed c → sum_by (makes next) vs ≡ 0
+  pub none_there : committed_word g ws c.block ≡ packed c → sum_by (makes next) vs ≡ 0
   none_there is =
       let k : ℕ = c.block in
       let F : ℕ → ℕ = λ o. sum_by (makes (place g k o)) vs in
@@ -150,7 +150,7 @@ module _ (g : Grid) (front : Front) (next : ℕ) (ws : List ℕ) (vs : List View
       let none : F c.offset ≡ 0 = ⊎_elim (λ q. omega arith) (λ q. absurd (more q)) (cases_lt (F c.offset) 1) in
       subst (λ (p : ℕ). sum_by (makes p) vs ≡ 0) at none
 
-  none_opened : committed_word g ws c.block / offset_span < c.block → sum_by (makes next) vs ≡ 0
+  pub none_opened : committed_word g ws c.block / offset_span < c.block → sum_by (makes next) vs ≡ 0
   none_opened less =
       let at = place_of_cursor g next in
       let in_block = place_in_block g c in

@@ -10,3 +10,5 @@ pub mod Laws
 pub mod Gathered
 pub mod Moments
 pub mod Causes
+pub mod Alone
+pub mod Rest

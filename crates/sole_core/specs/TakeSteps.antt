@@ -57,6 +57,10 @@ want_take shape (Word r next) =
 want_take shape (Consume r) =
     Max (index_of shape (consumed (r.block % shape.blocks))) (packed r + 1)
 
+-- a whole entry stands at the consumer's cursor: its words are read
+abbrev pub read_from : Cursor → After
+read_from r = Next (Take (Word r 0))
+
 -- no entry stands at the consumer's cursor
 abbrev pub empty : Grid → Cursor → After
 empty shape r = Done (answer.Take (take.Empty (place_at shape r)))
@@ -67,7 +71,7 @@ abbrev pub committed_or_not : Grid → Cursor → ℕ → After
 committed_or_not shape r old =
     if old == packed r then empty shape r else
     (if nat_lt (old / offset_span) r.block then empty shape r else
-    (if (old % offset_span) == shape.size then Next (Take (Word r 0)) else Next
+    (if (old % offset_span) == shape.size then read_from r else Next
     (Take (All r (unpacked old)))))
 
 -- whether two cursors are one
@@ -77,7 +81,7 @@ is_same c d = (c.block == d.block) && (c.offset == d.offset)
 -- by the allocated cursor: where it is the committed one, no put of the block is unfinished
 abbrev pub all_or_not : Cursor → Cursor → ℕ → After
 all_or_not r m old =
-    if is_same (unpacked old) m then Next (Take (Word r 0)) else Done
+    if is_same (unpacked old) m then read_from r else Done
     (answer.Take (take.Busy (why.Unfinished r.block m (unpacked old))))
 
 -- what follows a step of each phase that found old

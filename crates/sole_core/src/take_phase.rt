@@ -1,5 +1,5 @@
 ghost use Rattle.std.specs.Prelude.{◌≡◌, ℕ, ◌+◌, ◌*◌, ◌^◌, ◌<◌, ◌≤◌};
-ghost use Rattle.sole_core.specs.TakeSteps.{IsTakeInRange, after_take, all_or_not, committed_or_not, first_take, next_cursor, rank_take, take_at, want_take, empty};
+ghost use Rattle.sole_core.specs.TakeSteps.{IsTakeInRange, after_take, all_or_not, committed_or_not, first_take, next_cursor, rank_take, read_from, take_at, want_take, empty};
 ghost use Rattle.sole_core.specs.declared.take_phase.SoleTake.TheVariants.{All, Com};
 ghost use Rattle.machine.specs.Ops.{index};
 ghost use Rattle.cursor_word.specs.Layout.{word_count};
@@ -94,10 +94,18 @@ fn committed_or_not(shape: &Shape, r: Cursor, old: u64) -> SoleAfter
     } else if found.block < r.block {
         empty(shape, r)
     } else if found.offset == size {
-        SoleAfter::Next(SolePhase::Take(SoleTake::Word { r, next: 0 }))
+        read_from(r)
     } else {
         SoleAfter::Next(SolePhase::Take(SoleTake::All { r, m: found }))
     }
+}
+
+// A whole entry stands at r.
+#[inline(always)]
+fn read_from(r: Cursor) -> SoleAfter
+    ensures { result ≡ read_from r }
+{
+    SoleAfter::Next(SolePhase::Take(SoleTake::Word { r, next: 0 }))
 }
 
 // No entry stands at r.
@@ -119,7 +127,7 @@ fn all_or_not(r: Cursor, m: Cursor, old: u64) -> SoleAfter
 {
     let found = Cursor::unpack(old);
     if found.block == m.block && found.offset == m.offset {
-        SoleAfter::Next(SolePhase::Take(SoleTake::Word { r, next: 0 }))
+        read_from(r)
     } else {
         SoleAfter::Done(Answer::Take(Take::Busy(Why::Unfinished {
             block: r.block,

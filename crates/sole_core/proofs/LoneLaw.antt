@@ -1,0 +1,200 @@
+-- A call that is done alone answers as one thread is answered.
+use Rattle.std.proofs.Common.{◌≡◌, ◌≢◌, ℕ, suc, ◌+◌, ◌*◌, ◌/◌, ◌%◌, ◌<◌, ◌≤◌, ◌⊎◌, List, [], length, refl, sym, ap, ◌∙◌, subst, inl, inr, ⊎_elim, arith}
+use Rattle.std.specs.Prelude.{Option, Some, None, slice_get, slice_index, slice_set, if◌then◌else◌}
+use Rattle.std.specs.List.{AllByRecursion}
+use Rattle.cursor_word.specs.Shape.{Grid, IsWithinLimits}
+use Rattle.cursor_word.specs.Cursor.{most_puts, offset_span, packed, place_span}
+use Rattle.cursor_word.specs.declared.cursor.Cursor.{Cursor}
+use Rattle.rail.specs.declared.entry.Placed.{Placed}
+use Rattle.std.proofs.lemmas.List.{set-get_or}
+use Rattle.rail.specs.declared.answer.Answer.{Answer}
+use Rattle.rail.specs.declared.answer.Answer.TheVariants as answer
+use Rattle.rail.specs.declared.answer.Put.TheVariants as put
+use Rattle.rail.specs.declared.answer.Take.TheVariants as take
+use Rattle.rail.specs.declared.answer.Why.{Why}
+use Rattle.machine.specs.declared.op.After.TheVariants.{Next, Done}
+use Rattle.machine.specs.declared.event.Event.{Event}
+use Rattle.machine.specs.declared.event.Start.{Start}
+use Rattle.machine.specs.declared.event.Start.TheVariants as start
+use Rattle.machine.specs.Steps as steps
+use Rattle.machine.specs.Steps.{IsWide, Suits, begun, finds, view_after, words_after}
+use Rattle.machine.specs.Moments.{BeginsCall, EndsAt, IsCall, IsDoneAlone, IsMidCall, IsOverlapped, IsUnmixed, answer_in, moment, phase_in, phase_of}
+use Rattle.machine.proofs.Lists.{all_at, get_set, get_set_other, get_set_same, set_again, set_twice}
+use Rattle.machine.proofs.Runs.{moment_total}
+use Rattle.machine.proofs.Calls.{rest_at, unmixed, view_at}
+use Rattle.machine.proofs.Lone.{Comes, IsLoneRule, answers_alone}
+use Rattle.sole_core.specs.Types.{After, MachineState, View}
+use Rattle.sole_core.specs.Table.{table}
+use Rattle.sole_core.specs.declared.phase.SolePhase.{SolePhase}
+use Rattle.sole_core.specs.PutSteps.{after, first_put}
+use Rattle.sole_core.specs.TakeSteps.{committed_or_not, empty, first_take, next_cursor}
+use Rattle.sole_core.specs.Counts.{taken_count, taken_total}
+use Rattle.sole_core.specs.Sound.{IsSoundAt, Knows, scene}
+use Rattle.sole_core.specs.Stage.{stage, stage_of}
+use Rattle.machine.specs.Invariant.{made_count, made_total}
+use Rattle.put_side.specs.Cursors.{Front}
+use Rattle.put_side.specs.PutTable.{stage_in}
+use Rattle.put_side.proofs.Begins.{begins_away}
+use Rattle.put_side.proofs.Made.{made_same}
+use Rattle.sole_core.specs.Alone.{AnswersAlone, GoesOnAlone, IsAlone, IsStill}
+use Rattle.sole_core.specs.Rest.{AnsweredAsOne, AnswersAsOne}
+use Rattle.sole_core.proofs.CallKinds.{OfCall, call_stays}
+use Rattle.sole_core.proofs.AloneCalls.{begun_total, goes_alone, put_alone, take_alone}
+use Rattle.sole_core.proofs.Frames.{quiet}
+use Rattle.sole_core.proofs.Loads.{pick_equal, pick_less, seen_by}
+use Rattle.sole_core.proofs.Starts.{begins_manned}
+use Rattle.sole_core.proofs.Reached.{moment_sound}
+
+-- the seat is alone in a call that was begun so
+record LoneState (g : Grid) (n t seat : ℕ) (begins : Start) (w : MachineState) (p : SolePhase) : Type 0 where
+  view : View
+  at : slice_get w.views seat ≡ Some view
+  is : view.phase ≡ Some p
+  alone : IsAlone g n t w.words w.views seat p
+  kind : OfCall begins (Next p)
+
+answers_kind : (g : Grid) (n t : ℕ) (begins : Start) (a : Answer) → OfCall begins (Done a) → AnswersAlone g n t a → AnswersAsOne g n t begins (Some a)
+answers_kind g n t (start.Put entry) (answer.Put p) kind h = h
+answers_kind g n t (start.Put entry) (answer.Take q) kind h = absurd kind
+answers_kind g n t start.Take (answer.Put p) kind h = absurd kind
+answers_kind g n t start.Take (answer.Take q) kind h = h
+answers_kind g n t start.Go a kind h = absurd kind
+
+-- a seat at rest that ends a call with nothing made or taken keeps the invariant
+rests_again : (g : Grid) (front : Front) (next : ℕ) (ws : List ℕ) (vs : List View) (id : ℕ) (v v' : View) → IsSoundAt g front next ws vs → slice_get vs id ≡ Some v → v.phase ≡ None → v'.phase ≡ None → v'.made ≡ v.made → v'.taken ≡ v.taken → v'.entry ≡ v.entry
+    → IsSoundAt g front next ws (slice_set vs id v')
+rests_again g front next ws vs id v v' s at rest rest' made taken entry =
+    quiet g front front next ws ws vs id v v' s at record { consumed = λ k. omega arith; committed = λ k. omega arith; made = made_same vs id v v' at made } (λ k. refl) s.unmoved taken
+    (begins_away stage_of g front ws vs id v v' s.puts at (ap (stage_in stage) rest) made (ap (stage_in stage) rest') entry) s.near
+    (subst (λ (o : Option SolePhase). Knows g (scene g next ws (slice_set vs id v')) v'.read o) (sym rest') tt)
+    (λ q h. let z = sym rest' ∙ h in cc)
+
+module _ (g : Grid) (n t seat : ℕ) (begins : Start) where
+  abbrev ComesTo : MachineState → Type 0
+  ComesTo w = Comes seat (AnswersAsOne g n t begins) (LoneState g n t seat begins) w
+
+  settles : (ws : List ℕ) (vs : List View) (v v' : View) (b : After) → slice_get vs seat ≡ Some v → v'.phase ≡ steps.phase_after b → v'.answer ≡ steps.answer_after v.answer b → OfCall begins b
+      → GoesOnAlone g n t ws (slice_set vs seat v') seat b → ComesTo (record { words = ws; views = slice_set vs seat v' })
+  settles ws vs v v' (Next p) at ph an kind h = inl (p, record { view = v'; at = get_set_same vs seat v v' at; is = ph; alone = h; kind = kind })
+  settles ws vs v v' (Done a) at ph an kind h =
+      let here : slice_get (slice_set vs seat v') seat ≡ Some v' = get_set_same vs seat v v' at in
+      inr (ap phase_in here ∙ ph, subst (AnswersAsOne g n t begins) (sym (ap answer_in here ∙ an)) (answers_kind g n t begins a kind h.0))
+
+  module _ (limits : IsWithinLimits g) (room : n ≤ place_span g) where
+    -- a turn of the seat
+    own_moves : (ws : List ℕ) (vs : List View) (v : View) (p : SolePhase) → IsAlone g n t ws vs seat p → OfCall begins (Next p) → slice_get vs seat ≡ Some v → v.phase ≡ Some p
+        → ComesTo (record { words = words_after table g ws v p; views = slice_set vs seat (view_after table g ws v p) })
+    own_moves ws vs v p alone kind at e =
+        settles (words_after table g ws v p) vs v (view_after table g ws v p) (after g p (finds table g ws v p)) at refl refl (call_stays g begins p _ kind) (goes_alone g n t ws vs seat v p limits alone room at e)
+
+    own_turn : (w : MachineState) (v : View) (s : Start) (p : SolePhase) (ph : Option SolePhase) → IsAlone g n t w.words w.views seat p → OfCall begins (Next p) → slice_get w.views seat ≡ Some v → v.phase ≡ ph → ph ≡ Some p
+        → (let m = steps.moves table g w.words (steps.begun table g v ph s) (steps.begun table g v ph s).phase in ComesTo (record { words = m.words; views = slice_set w.views seat m.view }))
+    own_turn w v s p None alone kind at e is = cc
+    own_turn w v s p (Some q) alone kind at e is =
+        subst (λ (o : Option SolePhase). (let m = steps.moves table g w.words v o in ComesTo (record { words = m.words; views = slice_set w.views seat m.view }))) (sym (e ∙ is)) (own_moves w.words w.views v p alone kind at (e ∙ is))
+
+    own_step : (w : MachineState) (p : SolePhase) (s : Start) → LoneState g n t seat begins w p → ComesTo (steps.turn table g w seat s (slice_get w.views seat))
+    own_step w p s l =
+        subst (λ (o : Option View). ComesTo (steps.turn table g w seat s o)) (sym l.at) (own_turn w l.view s p l.view.phase l.alone l.kind l.at refl l.is)
+
+    -- the first step of a call that is begun where all seats are at rest
+    begins_lone : (w : MachineState) (v : View) (s : Start) (ph : Option SolePhase) → s ≡ begins → IsStill g n t w.words w.views → slice_get w.views seat ≡ Some v → v.phase ≡ ph → ph ≡ None → BeginsCall s → Suits table g (record { seat = seat; start = s })
+        → (let m = steps.moves table g w.words (steps.begun table g v ph s) (steps.begun table g v ph s).phase in ComesTo (record { words = m.words; views = slice_set w.views seat m.view }))
+    begins_lone w v s (Some p) same still at e none is wide = cc
+    begins_lone w v (start.Put entry) None same still at e none is may =
+        let v' : View = begun table g v None (start.Put entry) in
+        subst (λ (vs : List View). ComesTo (record { words = words_after table g w.words v' first_put; views = vs })) (set_twice w.views seat v' (view_after table g w.words v' first_put))
+        (own_moves w.words (slice_set w.views seat v') v' first_put (put_alone g limits n t w.words w.views seat v still at entry may.wide) (subst (λ (b : Start). OfCall b (Next first_put)) same tt) (get_set_same w.views seat v v' at) refl)
+    begins_lone w v start.Take None same still at e none is may =
+        let v' : View = begun table g v None start.Take in
+        let first : SolePhase = first_take g v.taken in
+        subst (λ (vs : List View). ComesTo (record { words = words_after table g w.words v' first; views = vs })) (set_twice w.views seat v' (view_after table g w.words v' first))
+        (own_moves w.words (slice_set w.views seat v') v' first (take_alone g limits n t w.words w.views seat v still at may.may_begin) (subst (λ (b : Start). OfCall b (Next first)) same tt) (get_set_same w.views seat v v' at) refl)
+    begins_lone w v start.Go None same still at e none is may = absurd is
+
+  -- another seat's turn
+  abbrev AfterOther : MachineState → SolePhase → ℕ → Type 0
+  AfterOther w p other = LoneState g n t seat begins w p ⊎ IsMidCall (phase_in (slice_get w.views other))
+
+  -- it ended a call by its first step, with nothing made or taken
+  other_rests : (w : MachineState) (p : SolePhase) (other : ℕ) (u v' : View) → other ≢ seat → LoneState g n t seat begins w p → slice_get w.views other ≡ Some u → u.phase ≡ None → v'.phase ≡ None → v'.made ≡ u.made → v'.taken ≡ u.taken → v'.entry ≡ u.entry
+      → LoneState g n t seat begins (record { words = w.words; views = slice_set w.views other v' }) p
+  other_rests w p other u v' apart l at rest rest' made taken entry =
+      let a = l.alone in
+      record {
+        view = l.view;
+        at = get_set_other w.views other seat v' (λ e. apart (sym e)) ∙ l.at;
+        is = l.is;
+        alone = record {
+          front = a.front;
+          next = a.next;
+          sound = rests_again g a.front a.next w.words w.views other u v' a.sound at rest rest' made taken entry;
+          manned = begins_manned g a.front a.next w.words w.views other u at rest v' a.manned;
+          others = λ j x d e. ⊎_elim (λ q. subst (λ (y : View). y.phase ≡ None) q.1 rest') (λ q. a.others j x d q.1) (get_set w.views other j v' x e);
+          made = begun_total made_count w.views other n u v' at (ap (λ (items : List Placed). length items) made) a.made;
+          taken = begun_total taken_count w.views other t u v' at (ap (λ (items : List Placed). length items) taken) a.taken;
+          knows = a.knows;
+        };
+        kind = l.kind;
+      }
+
+  -- it began a call, and is in it
+  other_mid : (w : MachineState) (p : SolePhase) (other : ℕ) (ws : List ℕ) (u v' : View) (q : SolePhase) → slice_get w.views other ≡ Some u → v'.phase ≡ Some q → AfterOther (record { words = ws; views = slice_set w.views other v' }) p other
+  other_mid w p other ws u v' q at is = inr (subst IsMidCall (sym (ap phase_in (get_set_same w.views other u v' at) ∙ is)) tt)
+
+  other_take : (w : MachineState) (p : SolePhase) (other : ℕ) (u : View) → other ≢ seat → LoneState g n t seat begins w p → slice_get w.views other ≡ Some u → u.phase ≡ None
+      → (let b = begun table g u None start.Take in let first = first_take g u.taken in AfterOther (record { words = words_after table g w.words b first; views = slice_set w.views other (view_after table g w.words b first) }) p other)
+  other_take w p other u apart l at rest =
+      let b : View = begun table g u None start.Take in
+      let r : Cursor = next_cursor g (length u.taken) in
+      let i : ℕ = 3 + 4 * (r.block % g.blocks) in
+      let x : ℕ = slice_index w.words i in
+      let P : After → Type 0 = λ a. AfterOther (record { words = w.words; views = slice_set w.views other (seen_by b a [] x) }) p other in
+      let none : P (empty g r) = inl (other_rests w p other u (seen_by b (empty g r) [] x) apart l at rest refl refl refl refl) in
+      let on : (q : SolePhase) → P (Next q) = λ q. other_mid w p other w.words u (seen_by b (Next q) [] x) q at refl in
+      subst (λ (ws : List ℕ). AfterOther (record { words = ws; views = slice_set w.views other (seen_by b (committed_or_not g r x) [] x) }) p other) (sym (set-get_or w.words i 0))
+      (pick_equal P x (packed r) _ _ (λ e. none) (λ ne. pick_less P (x / offset_span) r.block _ _ (λ less. none) (λ ge. pick_equal P (x % offset_span) g.size _ _ (λ e. on _) (λ e. on _))))
+
+  other_moves : (w : MachineState) (p : SolePhase) (other : ℕ) (u : View) (s : Start) (ph : Option SolePhase) → other ≢ seat → LoneState g n t seat begins w p → slice_get w.views other ≡ Some u → u.phase ≡ ph → ph ≡ None
+      → (let m = steps.moves table g w.words (begun table g u ph s) (begun table g u ph s).phase in AfterOther (record { words = m.words; views = slice_set w.views other m.view }) p other)
+  other_moves w p other u s (Some q) apart l at e none = cc
+  other_moves w p other u (start.Put entry) None apart l at e none = other_mid w p other _ u _ _ at refl
+  other_moves w p other u start.Take None apart l at e none = other_take w p other u apart l at e
+  other_moves w p other u start.Go None apart l at e none =
+      subst (λ (o : Option SolePhase). (let m = steps.moves table g w.words u o in AfterOther (record { words = m.words; views = slice_set w.views other m.view }) p other)) (sym e)
+      (inl (subst (λ (vs : List View). LoneState g n t seat begins (record { words = w.words; views = vs }) p) (sym (set_again w.views other u at)) l))
+
+  other_view : (w : MachineState) (p : SolePhase) (other : ℕ) (s : Start) (o : Option View) → other ≢ seat → LoneState g n t seat begins w p → slice_get w.views other ≡ o → AfterOther (steps.turn table g w other s (slice_get w.views other)) p other
+  other_view w p other s None apart l at = inl (subst (λ (o : Option View). LoneState g n t seat begins (steps.turn table g w other s o) p) (sym at) l)
+  other_view w p other s (Some u) apart l at = subst (λ (o : Option View). AfterOther (steps.turn table g w other s o) p other) (sym at) (other_moves w p other u s u.phase apart l at refl (l.alone.others other u apart at))
+
+module _ (g : Grid) (events : List Event) (limits : IsWithinLimits g) (suits : AllByRecursion (Suits table g) events) (few : length events < most_puts g) where
+  still_at : (n : ℕ) → ((j : ℕ) → phase_of table g events n j ≡ None) → (let w = moment table g events n in IsStill g (made_total w.views) (taken_total w.views) w.words w.views)
+  still_at n rest =
+      let s = moment_sound g events limits suits few n in
+      record { front = s.front; next = s.next; sound = s.sound; manned = s.manned; rest = rest_at (moment table g events n).views rest; made = refl; taken = refl }
+
+  module _ (seat n m : ℕ) (begins : Start) (call : IsCall table g events seat n m begins) where
+    own_event : Suits table g (record { seat = seat; start = begins })
+    own_event = all_at (Suits table g) events n _ suits call.event
+
+    -- where all seats are at rest when it begins, and no other is in mid-call at one of its moments
+    pub rested_answers : ((j : ℕ) → phase_of table g events n j ≡ None) → IsUnmixed table g events seat n m → AnsweredAsOne g events seat n m begins
+    rested_answers rest alone =
+        let w : MachineState = moment table g events n in
+        let v = view_at table g events n seat own_event.seat in
+        let N : ℕ = made_total w.views in
+        let T : ℕ = taken_total w.views in
+        let room : N ≤ place_span g = moment_total table g events n few in
+        let rule : IsLoneRule table g seat begins (AnswersAsOne g N T begins) (LoneState g N T seat begins) w =
+        record {
+          first = subst (λ (o : Option View). ComesTo g N T seat begins (steps.turn table g w seat begins o)) (sym v.1)
+              (begins_lone g N T seat begins limits room w v.0 begins v.0.phase refl (still_at n rest) v.1 refl (ap phase_in (sym v.1) ∙ call.rested) call.is_begun own_event);
+          stands = λ w p l. ap phase_in l.at ∙ l.is;
+          own = λ w p s l. own_step g N T seat begins limits room w p s l;
+          other = λ w p j s apart l. other_view g N T seat begins w p j s (slice_get w.views j) apart l refl;
+        } in
+        answers_alone table g events seat n m begins call (AnswersAsOne g N T begins) (LoneState g N T seat begins) rule alone
+
+    pub alone_answers : IsDoneAlone table g events seat n m → AnsweredAsOne g events seat n m begins
+    alone_answers alone = rested_answers alone.rest (unmixed table g events seat n m alone)
