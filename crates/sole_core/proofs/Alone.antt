@@ -1,6 +1,6 @@
 -- A put that is done alone: each of its steps, and what it answers.
 use Rattle.std.proofs.Common.{◌≡◌, ℕ, ◌+◌, ◌-◌, ◌*◌, ◌/◌, ◌%◌, ◌^◌, ◌<◌, ◌≤◌, max, min, List, length, refl, sym, ap, ◌∙◌, subst, inr, ⊎_elim, arith}
-use Rattle.std.specs.Prelude.{Some, slice_set, slice_index, if◌then◌else◌}
+use Rattle.std.specs.Prelude.{slice_set, slice_index, if◌then◌else◌}
 use Rattle.rail.specs.declared.answer.Answer.TheVariants as answer
 use Rattle.rail.specs.declared.answer.Put.TheVariants as put
 use Rattle.std.proofs.lemmas.List.{get_or-set_same, get_or-set_other, length-append}
@@ -8,7 +8,7 @@ use Rattle.std.proofs.lemmas.Bool.{cases_lt}
 use Rattle.std.proofs.lemmas.Nat.{div-add-mod', div-mul-add, mod-mul-add, mod_below, same_from_place}
 use Rattle.std.proofs.Math.Nat.{mul-le-mul_right}
 use Rattle.cursor_word.specs.Shape.{Grid, IsWithinLimits}
-use Rattle.cursor_word.specs.Cursor.{offset_span, packed, place_at, unpacked}
+use Rattle.cursor_word.specs.Cursor.{offset_span, place_at, unpacked}
 use Rattle.cursor_word.specs.declared.cursor.Cursor.{Cursor}
 use Rattle.machine.specs.declared.op.After.TheVariants.{Next, Done}
 use Rattle.machine.specs.Steps.{words_after}
@@ -17,7 +17,7 @@ use Rattle.put_side.specs.Cursors.{Front, allocated_word, committed_word, place}
 use Rattle.put_side.specs.Stages as stages
 use Rattle.put_side.specs.PutTable.{stage_in}
 use Rattle.put_side.proofs.Sums.{by_test_le}
-use Rattle.put_side.proofs.Facts.{allocated_below, committed_below, physical, repacked}
+use Rattle.put_side.proofs.Facts.{allocated_below, committed_below, physical}
 use Rattle.put_side.proofs.Loads as put_loads
 use Rattle.sole_core.specs.declared.phase.SolePhase.{SolePhase}
 use Rattle.sole_core.specs.declared.phase.SolePhase.TheVariants.{HeadP, SeeA, AddA, Write, Commit, SeeX, OpenM, OpenA, RaiseP}

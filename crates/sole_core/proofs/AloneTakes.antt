@@ -1,10 +1,10 @@
 -- A take that is done alone: each of its steps, and what it answers.
-use Rattle.std.proofs.Common.{◌≡◌, ◌≢◌, ℕ, ◌+◌, ◌*◌, ◌/◌, ◌%◌, ◌<◌, ◌≤◌, min, List, [], ◌∷◌, ◌++◌, length, refl, sym, ap, ◌∙◌, subst, ⊎_elim, arith}
-use Rattle.std.specs.Prelude.{Some, slice_index, slice_set, if◌then◌else◌}
+use Rattle.std.proofs.Common.{◌≡◌, ℕ, ◌+◌, ◌*◌, ◌/◌, ◌%◌, ◌<◌, ◌≤◌, min, List, [], ◌∷◌, ◌++◌, refl, sym, ap, ◌∙◌, subst, ⊎_elim, arith}
+use Rattle.std.specs.Prelude.{slice_index, slice_set, if◌then◌else◌}
 use Rattle.std.specs.List.{sum_by}
 use Rattle.std.proofs.lemmas.Bool.{cases_lt}
 use Rattle.std.proofs.lemmas.List.{length-append}
-use Rattle.cursor_word.specs.Shape.{Grid, IsWithinLimits}
+use Rattle.cursor_word.specs.Shape.{Grid}
 use Rattle.cursor_word.specs.Cursor.{cursor_of, offset_span, packed, place_at, unpacked}
 use Rattle.cursor_word.specs.Layout.{entry_index}
 use Rattle.cursor_word.specs.declared.cursor.Cursor.{Cursor}
@@ -16,12 +16,11 @@ use Rattle.rail.specs.declared.answer.Answer.TheVariants as answer
 use Rattle.rail.specs.declared.answer.Take.TheVariants as take
 use Rattle.rail.specs.declared.answer.Why.TheVariants as why
 use Rattle.machine.specs.declared.op.After.TheVariants.{Next, Done}
-use Rattle.put_side.specs.Cursors.{Front, allocated_word, committed_word, place}
-use Rattle.put_side.specs.Counts.{makes, one_below}
-use Rattle.put_side.proofs.Facts.{physical, repacked}
+use Rattle.put_side.specs.Cursors.{Front, allocated_word, committed_word}
+use Rattle.put_side.specs.Counts.{makes}
+use Rattle.put_side.proofs.Facts.{repacked}
 use Rattle.put_side.proofs.Items.{made_counts}
 use Rattle.put_side.proofs.Sums.{none_from, one_in}
-use Rattle.sole_core.specs.declared.phase.SolePhase.{SolePhase}
 use Rattle.sole_core.specs.declared.phase.SolePhase.TheVariants.{Take}
 use Rattle.sole_core.specs.declared.take_phase.SoleTake.{SoleTake}
 use Rattle.sole_core.specs.declared.take_phase.SoleTake.TheVariants.{Com, All, Word, Consume}

@@ -1,6 +1,6 @@
 -- A put answers as a put, and a take as a take.
 use Rattle.std.proofs.Common.{ℕ, ◌+◌, ◌/◌, ◌%◌, Bool, true, false}
-use Rattle.std.specs.Prelude.{if◌then◌else◌, ◌==◌, ◌&&◌, nat_lt, nat_le}
+use Rattle.std.specs.Prelude.{if◌then◌else◌, ◌==◌, nat_lt, nat_le}
 use Rattle.cursor_word.specs.Shape.{Grid}
 use Rattle.cursor_word.specs.Cursor.{offset_span, packed, unpacked}
 use Rattle.rail.specs.declared.answer.Answer.TheVariants as answer

@@ -3,23 +3,22 @@ use Rattle.std.proofs.Common.{◌≡◌, ℕ, zero, suc, ◌+◌, ◌-◌, ◌*�
 use Rattle.std.specs.Prelude.{Option, Some, None, slice_get, slice_index}
 use Rattle.std.specs.List.{sum_by}
 use Rattle.std.proofs.lemmas.List.{length-append, length-map}
-use Rattle.std.proofs.lemmas.List.Sums.{sum_by-append, sum_by-cons, sum_by-le-sum_by}
+use Rattle.std.proofs.lemmas.List.Sums.{sum_by-append, sum_by-cons}
 use Rattle.std.proofs.lemmas.Bool.{cases_lt}
-use Rattle.std.proofs.lemmas.Nat.{mod_below}
-use Rattle.std.proofs.Math.Nat.{mod-mod, mul-le-mul_right}
+use Rattle.std.proofs.Math.Nat.{mul-le-mul_right}
 use Rattle.cursor_word.specs.Shape.{Grid, IsWithinLimits}
-use Rattle.cursor_word.specs.Cursor.{cursor_of, first_of, offset_span}
+use Rattle.cursor_word.specs.Cursor.{cursor_of, offset_span}
 use Rattle.cursor_word.proofs.Places.{block_of_place_from, first_after, first_to, offset_of_place, place_in_block, place_of_cursor}
 use Rattle.rail.specs.declared.entry.Placed.{Placed}
 use Rattle.rail.specs.Items.{places}
 use Rattle.machine.specs.Steps.{AllRest}
 use Rattle.machine.specs.Invariant.{made_total}
-use Rattle.cursor_word.proofs.Blocks.{latest, latest_is, shifted}
+use Rattle.cursor_word.proofs.Blocks.{shifted}
 use Rattle.put_side.specs.Cursors.{Front, allocated_word, committed_word, place, put_cursors}
 use Rattle.put_side.specs.Counts.{makes, one_at, one_below, sum_below, times}
 use Rattle.put_side.specs.Manned as put_work
 use Rattle.put_side.specs.PutTable.{stage_in}
-use Rattle.put_side.proofs.Sums.{none_from, one_in, one_to, upto_all, upto_cut}
+use Rattle.put_side.proofs.Sums.{none_from, one_in, upto_cut}
 use Rattle.put_side.proofs.Facts.{physical, place_next}
 use Rattle.sole_core.specs.declared.phase.SolePhase.{SolePhase}
 use Rattle.sole_core.specs.Types.{View}

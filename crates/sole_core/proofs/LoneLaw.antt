@@ -3,7 +3,7 @@ use Rattle.std.proofs.Common.{◌≡◌, ◌≢◌, ℕ, suc, ◌+◌, ◌*◌, 
 use Rattle.std.specs.Prelude.{Option, Some, None, slice_get, slice_index, slice_set, if◌then◌else◌}
 use Rattle.std.specs.List.{AllByRecursion}
 use Rattle.cursor_word.specs.Shape.{Grid, IsWithinLimits}
-use Rattle.cursor_word.specs.Cursor.{most_puts, offset_span, packed, place_span}
+use Rattle.cursor_word.specs.Cursor.{most_puts, offset_span, packed, place_at, place_span}
 use Rattle.cursor_word.specs.declared.cursor.Cursor.{Cursor}
 use Rattle.rail.specs.declared.entry.Placed.{Placed}
 use Rattle.std.proofs.lemmas.List.{set-get_or}
@@ -21,8 +21,10 @@ use Rattle.machine.specs.Steps.{IsWide, Suits, begun, finds, view_after, words_a
 use Rattle.machine.specs.Moments.{BeginsCall, EndsAt, IsCall, IsDoneAlone, IsMidCall, IsOverlapped, IsUnmixed, answer_in, moment, phase_in, phase_of}
 use Rattle.machine.proofs.Lists.{all_at, get_set, get_set_other, get_set_same, set_again, set_twice}
 use Rattle.machine.proofs.Runs.{moment_total}
-use Rattle.machine.proofs.Calls.{rest_at, unmixed, view_at}
-use Rattle.machine.proofs.Lone.{Comes, IsLoneRule, answers_alone}
+use Rattle.machine.proofs.Calls.{phase_stays, rest_at, unmixed, view_at}
+use Rattle.machine.proofs.Schedules.{ends_done}
+use Rattle.std.proofs.lemmas.Bool.{cases_eq, cases_lt}
+use Rattle.machine.proofs.Lone.{Comes, IsLoneRule, answers_alone, overlaps}
 use Rattle.sole_core.specs.Types.{After, MachineState, View}
 use Rattle.sole_core.specs.Table.{table}
 use Rattle.sole_core.specs.declared.phase.SolePhase.{SolePhase}
@@ -41,7 +43,7 @@ use Rattle.sole_core.specs.Rest.{AnsweredAsOne, AnswersAsOne}
 use Rattle.sole_core.proofs.CallKinds.{OfCall, call_stays}
 use Rattle.sole_core.proofs.AloneCalls.{begun_total, goes_alone, put_alone, take_alone}
 use Rattle.sole_core.proofs.Frames.{quiet}
-use Rattle.sole_core.proofs.Loads.{pick_equal, pick_less, seen_by}
+use Rattle.sole_core.proofs.Loads.{by_equal, pick_equal, pick_less, seen_by}
 use Rattle.sole_core.proofs.Starts.{begins_manned}
 use Rattle.sole_core.proofs.Reached.{moment_sound}
 
@@ -198,3 +200,58 @@ module _ (g : Grid) (events : List Event) (limits : IsWithinLimits g) (suits : A
 
     pub alone_answers : IsDoneAlone table g events seat n m → AnsweredAsOne g events seat n m begins
     alone_answers alone = rested_answers alone.rest (unmixed table g events seat n m alone)
+
+  -- no call answers Busy by its first step
+  abbrev IsBusy : Answer → Type 0
+  IsBusy (answer.Put (put.Busy reason)) = Unit {0}
+  IsBusy (answer.Take (take.Busy reason)) = Unit {0}
+  IsBusy a = ⊥
+
+  com_not_busy : (r : Cursor) (found : ℕ) (a : Answer) → committed_or_not g r found ≡ Done a → IsBusy a → ⊥
+  com_not_busy r found a =
+      let P : After → Type 0 = λ b. b ≡ Done a → IsBusy a → ⊥ in
+      let none : P (empty g r) = λ e. let z : answer.Take (take.Empty (place_at g r)) ≡ a = cc in subst (λ (c : Answer). IsBusy c → ⊥) z (λ h. h) in
+      pick_equal P found (packed r) _ _ (λ e. none) (λ ne. pick_less P (found / offset_span) r.block _ _ (λ l. none) (λ l. pick_equal P (found % offset_span) g.size _ _ (λ e q h. cc) (λ e q h. cc)))
+
+  first_not_busy : (u : View) (ph : Option SolePhase) (s : Start) (p : SolePhase) (found : ℕ) (a : Answer) → u.phase ≡ ph → ph ≡ None → (begun table g u ph s).phase ≡ Some p → after g p found ≡ Done a → IsBusy a → ⊥
+  first_not_busy u (Some q) s p found a e none is ends busy = cc
+  first_not_busy u None (start.Put entry) p found a e none is ends busy = let z : first_put ≡ p = cc in subst (λ (q : SolePhase). after g q found ≡ Done a → ⊥) z (λ h. cc) ends
+  first_not_busy u None start.Take p found a e none is ends busy = let z : first_take g u.taken ≡ p = cc in subst (λ (q : SolePhase). after g q found ≡ Done a → IsBusy a → ⊥) z (com_not_busy (next_cursor g (length u.taken)) found a) ends busy
+  first_not_busy u None start.Go p found a e none is ends busy = let z = sym e ∙ is in cc
+
+  module _ (i seat : ℕ) (a : Answer) (x : EndsAt table g events i seat a) (busy : IsBusy a) where
+    -- the call began by an earlier event, where all seats were at rest if no other was in mid-call at one of its moments
+    began_earlier : (n : ℕ) (begins : Start) → IsCall table g events seat n (suc i) begins → n < i
+    began_earlier n begins call = ⊎_elim (λ l. l)
+        (λ l. let e : n ≡ i = (let q = call.later in omega arith) in
+        let rest : x.before.phase ≡ None = ap phase_in (sym x.view_before) ∙ ap (λ (k : ℕ). phase_of table g events k seat) (sym e) ∙ call.rested in
+        absurd (first_not_busy x.before x.before.phase x.event.start x.phase _ a refl rest x.is_step (ends_done table g events i seat a x) busy))
+        (cases_lt n i)
+
+    all_rested : (n : ℕ) (begins : Start) → IsCall table g events seat n (suc i) begins → IsUnmixed table g events seat n (suc i) → (j : ℕ) → phase_of table g events n j ≡ None
+    all_rested n begins call alone j =
+        ⊎_elim (λ same. ap (phase_of table g events n) same ∙ call.rested)
+        (λ apart. let l = began_earlier n begins call in
+        sym (phase_stays table g events n j (λ e h q. apart (let z : record { seat = seat; start = begins } ≡ e = (let y = call.event in cc) in sym (ap (λ (y : Event). y.seat) z ∙ q)))) ∙ alone (suc n) j (omega arith) (omega arith) apart)
+        (cases_eq j seat)
+
+    overlapped : ((n t : ℕ) (begins : Start) → AnswersAsOne g n t begins (Some a) → ⊥) → IsOverlapped table g events seat i
+    overlapped never = overlaps table g events i seat a x
+        (λ n begins call alone is. never _ _ begins (subst (AnswersAsOne g (made_total (moment table g events n).views) (taken_total (moment table g events n).views) begins) is (rested_answers seat n (suc i) begins call (all_rested n begins call alone) alone)))
+
+  put_busy_never : (reason : Why) (n t : ℕ) (begins : Start) → AnswersAsOne g n t begins (Some (answer.Put (put.Busy reason))) → ⊥
+  put_busy_never reason n t (start.Put entry) h = h
+  put_busy_never reason n t start.Take h = h
+  put_busy_never reason n t start.Go h = h
+
+  take_busy_never : (reason : Why) (n t : ℕ) (begins : Start) → AnswersAsOne g n t begins (Some (answer.Take (take.Busy reason))) → ⊥
+  take_busy_never reason n t (start.Put entry) h = h
+  take_busy_never reason n t start.Take h = by_equal t n (λ b. take.Busy reason ≡ (if b then take.Empty n else take.Ok t) → ⊥) (λ e q. cc) (λ e q. cc) h
+  take_busy_never reason n t start.Go h = h
+
+  -- a Busy answer shows another seat in mid-call at one of the call's moments
+  pub put_overlapped : (i seat : ℕ) (reason : Why) → EndsAt table g events i seat (answer.Put (put.Busy reason)) → IsOverlapped table g events seat i
+  put_overlapped i seat reason x = overlapped i seat _ x tt (put_busy_never reason)
+
+  pub take_overlapped : (i seat : ℕ) (reason : Why) → EndsAt table g events i seat (answer.Take (take.Busy reason)) → IsOverlapped table g events seat i
+  take_overlapped i seat reason x = overlapped i seat _ x tt (take_busy_never reason)

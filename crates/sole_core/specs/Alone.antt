@@ -14,7 +14,7 @@ use Rattle.rail.specs.declared.answer.Put.TheVariants as put
 use Rattle.rail.specs.declared.answer.Take.TheVariants as take
 use Rattle.sole_core.specs.declared.phase.SolePhase.{SolePhase}
 use Rattle.sole_core.specs.declared.phase.SolePhase.TheVariants.{HeadP, SeeA, AddA, Write, Commit, SeeX, OpenM, OpenA, RaiseP, Take}
-use Rattle.sole_core.specs.declared.take_phase.SoleTake.TheVariants.{Com, All, Word, Consume}
+use Rattle.sole_core.specs.declared.take_phase.SoleTake.TheVariants.{All}
 use Rattle.sole_core.specs.Types.{After, View}
 use Rattle.sole_core.specs.Counts.{taken_total}
 use Rattle.sole_core.specs.Sound.{IsSoundAt}

@@ -11,7 +11,7 @@ ghost use Rattle.rail.specs.declared.answer.Answer.TheVariants as answer;
 ghost use Rattle.sole_core.specs.Types.{View};
 ghost use Rattle.sole_core.specs.Table.{table};
 ghost use Rattle.machine.specs.Steps.{Suits};
-ghost use Rattle.machine.specs.Moments.{EndsAt, found_by, seat_at, steps_of};
+ghost use Rattle.machine.specs.Moments.{EndsAt, IsOverlapped, found_by, seat_at, steps_of};
 ghost use Rattle.sole_core.specs.Causes.{BusyShown, EmptyShown, FullShown, PutPair, TakePair};
 
 use cursor_word::Shape;
@@ -42,6 +42,12 @@ pub fn sole_law_causes(shape: &Shape, events: &[Event])
     ensures busy_take { (i seat : ℕ) (reason : Why)
         → EndsAt table shape.now events.now i seat (answer.Take (take.Busy reason))
         → BusyShown (TakePair reason) (steps_of table shape.now events.now seat (suc i)) reason }
+    ensures put_overlapped { (i seat : ℕ) (reason : Why)
+        → EndsAt table shape.now events.now i seat (answer.Put (put.Busy reason))
+        → IsOverlapped table shape.now events.now seat i }
+    ensures take_overlapped { (i seat : ℕ) (reason : Why)
+        → EndsAt table shape.now events.now i seat (answer.Take (take.Busy reason))
+        → IsOverlapped table shape.now events.now seat i }
     ensures not_moved { (i seat : ℕ) (earlier later : Cursor)
         → EndsAt table shape.now events.now i seat
         (answer.Take (take.Busy (why.Moved earlier later))) → ⊥ }

@@ -1,0 +1,9 @@
+//! Tests of the queue with a sole consumer.
+#![tactic(auto)]
+
+#[cfg(test)]
+mod bench;
+#[cfg(test)]
+mod random;
+#[cfg(test)]
+mod schedules;
