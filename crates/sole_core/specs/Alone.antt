@@ -40,7 +40,8 @@ LoneKnows shape opened accepted words (OpenA full) =
     (full.block + 1 ≡ opened) × (allocated_word shape words opened / offset_span < opened)
 LoneKnows shape opened accepted words (RaiseP full) =
     (full.block + 1 ≡ opened) × (allocated_word shape words opened ≡ opened * offset_span)
-LoneKnows shape opened accepted words (Take (All r m)) = packed m ≡ committed_word shape words r.block
+LoneKnows shape opened accepted words (Take (All r m)) =
+    packed m ≡ committed_word shape words r.block
 LoneKnows shape opened accepted words (Take q) = Unit {0}
 
 -- seat id is alone in phase p of a call that began where n entries were accepted and t taken

@@ -28,8 +28,8 @@ FindsAllocated turn (SeeA t first head) = t ≡ turn
 FindsAllocated turn (AddA t first head) = t ≡ turn
 FindsAllocated turn p = ⊥
 
--- a call that answers Full found the allocated cursor of the head; and in its last step it loaded the
--- consumed cursor in the place of the next block, and the queue was full then
+-- a call that answers Full found the allocated cursor of the head; and in its last step it loaded
+-- the consumed cursor in the place of the next block, and the queue was full then
 pub record FullShown (shape : Grid) (events : List Event) (steps : List CallStep) (head : ℕ)
     (consumed : Cursor) : Type 0 where
   pub full : Cursor
@@ -40,8 +40,9 @@ pub record FullShown (shape : Grid) (events : List Event) (steps : List CallStep
   pub is_last : suc last.number ≡ length steps
   pub was_full : FullAt shape (moment table shape events last.step.position) head consumed
 
--- a call that answers Empty did one step: it loaded the committed cursor of the block where the next
--- place lies, which is the cursor of that place or of an earlier block, and the queue was empty then
+-- a call that answers Empty did one step: it loaded the committed cursor of the block where the
+-- next place lies, which is the cursor of that place or of an earlier block, and the queue was
+-- empty then
 pub record EmptyShown (shape : Grid) (events : List Event) (steps : List CallStep)
     (place : ℕ) : Type 0 where
   pub next : Cursor
@@ -67,8 +68,8 @@ abbrev pub PutPair : Why → SolePhase → SolePhase → Type 0
 PutPair (why.Unfinished block before after) p q = ⊥
 PutPair (why.Moved earlier later) p q = FindsAllocated 1 p × FindsAllocated 2 q
 
--- and those of a take's: the committed cursor and then the allocated one of the block where the next
--- place lies. No take finds that a cursor moved
+-- and those of a take's: the committed cursor and then the allocated one of the block where the
+-- next place lies. No take finds that a cursor moved
 abbrev pub TakePair : Why → SolePhase → SolePhase → Type 0
 TakePair (why.Unfinished block before after) p (Take (All r m)) =
     (p ≡ Take (Com r)) × (block ≡ r.block)

@@ -67,8 +67,8 @@ cursor_in (All r m) = r
 cursor_in (Word r next) = r
 cursor_in (Consume r) = r
 
--- What a seat remembers besides what the side of puts says: a put that is about to open a block, that
--- the older block in its place is wholly consumed; a take, where the next place lies.
+-- What a seat remembers besides what the side of puts says: a put that is about to open a block,
+-- that the older block in its place is wholly consumed; a take, where the next place lies.
 abbrev pub Knows : Grid → Scene → List ℕ → Option SolePhase → Type 0
 Knows shape s read (Some (OpenM full)) =
     older_consumed shape full.block ≤ s.consumed (full.block + 1)

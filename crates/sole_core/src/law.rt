@@ -15,8 +15,8 @@ ghost use Rattle.sole_core.specs.Gathered.{IsSettled};
 use cursor_word::Shape;
 use machine::Event;
 
-/// At each moment of each schedule the places that were made or are held are dense, each seat's made
-/// places rise, no word overflows, and the words of reserved places stay as they start.
+/// At each moment of each schedule the places that were made or are held are dense, each seat's
+/// made places rise, no word overflows, and the words that no step moves stay as they start.
 pub fn sole_law_accepted(shape: &Shape, events: &[Event])
     requires suits { AllByRecursion (Suits table shape.now) events.now }
     requires few { length events.now < most_puts shape.now }

@@ -176,7 +176,8 @@ pub fn sole_rank(shape: &Shape, phase: &SolePhase) -> u64
     requires { IsInRange shape.now phase.now }
     ensures rank { result ≡ rank shape.now phase.now }
     ensures some { 1 ≤ result }
-    ensures falls { (old : ℕ) (next : SolePhase) → after shape.now phase.now old ≡ Next next → rank shape.now next < result }
+    ensures falls { (old : ℕ) (next : SolePhase)
+        → after shape.now phase.now old ≡ Next next → rank shape.now next < result }
     ensures put { phase.now ≡ first_put → result ≡ shape.now.width + 11 }
     ensures take { (next : Cursor) → phase.now ≡ take_at next → result ≡ shape.now.width + 3 }
 {

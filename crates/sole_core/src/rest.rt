@@ -10,11 +10,11 @@ ghost use Rattle.machine.specs.Moments.{IsCall, IsDoneAlone, IsUnmixed, phase_of
 use cursor_word::Shape;
 use machine::Event;
 
-/// In each schedule a call that begins where all seats are at rest answers as the queue of one thread
-/// does, by what was made and taken there: where no other seat has a turn before it ends, and also
-/// where others have, while none of them is in mid-call at one of the call's moments. A take may end
-/// by its first step, so that it has no moments: it may answer otherwise where it begins while a put
-/// is in mid-call.
+/// In each schedule a call that begins where all seats are at rest answers as the queue of one
+/// thread does, by what was made and taken there: where no other seat has a turn before it ends,
+/// and also where others have, while none of them is in mid-call at one of the call's moments. A
+/// take may end by its first step, so that it has no moments: it may answer otherwise where it
+/// begins while a put is in mid-call.
 pub fn sole_law_rest(shape: &Shape, events: &[Event])
     requires suits { AllByRecursion (Suits table shape.now) events.now }
     requires few { length events.now < most_puts shape.now }

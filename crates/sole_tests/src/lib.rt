@@ -7,3 +7,5 @@ mod bench;
 mod random;
 #[cfg(test)]
 mod schedules;
+#[cfg(test)]
+mod stopped;
