@@ -20,23 +20,29 @@ pub record Queue : Type 0 where
 abbrev pub no_grid : Grid
 no_grid = record { blocks = 0; size = 0; width = 0; seats = 0 }
 
--- a seat: its queue, its number, what the machine knows of it, and the steps that it took
-pub record Seated (P : Type 0) : Type 0 where
+-- a seat: its queue, its number, what the machine knows of it, what it remembers beside the machine,
+-- and the steps that it took
+pub record SeatedWith (P M : Type 0) : Type 0 where
   pub of : Queue
   pub number : ℕ
   pub view : View P
+  pub memory : M
   pub log : List Step
 
-module _ {P : Type 0} where
-  abbrev pub IsSeatOf : Queue → Seated P → Type 0
+-- a seat that remembers nothing beside the machine
+abbrev pub Seated : Type 0 → Type 0
+Seated P = SeatedWith P (Unit {0})
+
+module _ {P M : Type 0} where
+  abbrev pub IsSeatOf : Queue → SeatedWith P M → Type 0
   IsSeatOf queue seat = seat.of ≡ queue
 
   -- a seat that has made and taken nothing
-  abbrev pub IsFresh : Queue → Seated P → Type 0
+  abbrev pub IsFresh : Queue → SeatedWith P M → Type 0
   IsFresh queue seat = (seat.of ≡ queue) × (seat.view ≡ resting P queue.shape)
 
   -- what contracts see of a seat's last call
-  abbrev pub told_of : Seated P → told.Told
+  abbrev pub told_of : SeatedWith P M → told.Told
   told_of seat = record { found = seat.view.trail; answer = seat.view.answer }
 
 -- how many entries an answer adds to what its seat made, and to what it took

@@ -118,6 +118,7 @@ module _ {P V : Type 0} (rule : Rule P V) where
     pub kept : (key : K) (view : V) (call : Start) (phase : P)
         → rule.Sits view → MayDo (rule.grid_of view) (rule.view_of view) call
         → (rule.view_of (in_call view call)).phase ≡ Some phase
-        → (let operation = table.want (rule.grid_of view) phase (rule.view_of (in_call view call)).entry in
+        → (let operation =
+        table.want (rule.grid_of view) phase (rule.view_of (in_call view call)).entry in
         Keeps (holds key) view (index operation) (moved operation)
         (λ value. DoesStep call view (logged operation value)))

@@ -20,13 +20,21 @@ use Rattle.drop_core.specs.Sound.{IsSound}
 use Rattle.drop_core.specs.Steps.{table}
 use Rattle.drop_core.proofs.Leaves.{left_is}
 use Rattle.drop_core.proofs.Settles.{settled}
-use Rattle.call_steps.specs.Queue.{Seated}
+use Rattle.call_steps.specs.Queue.{SeatedWith}
 use Rattle.shared_seats.specs.Seats.{HasStopped, in_order, made_by_all, taken_by_all, views_of_all}
 use Rattle.shared_seats.proofs.Closes as closes
+use Rattle.put_side.specs.Entries.{IsMade}
+use Rattle.put_side.proofs.Gathers.{has_in}
+use Rattle.std.specs.Prelude.{slice_get}
+use Rattle.std.proofs.lemmas.Option.{slice_get-get_or}
+use Rattle.std.proofs.Common.{get_or}
+use Rattle.block_looks.specs.declared.looks.Looks.{Looks}
+use Rattle.block_looks.specs.Looks.{LooksHold}
+use Rattle.drop_rail.specs.Looking.{HasSeenAccepted}
 use Rattle.drop_rail.specs.Closed.{is_taken, taken_in_order}
 use Rattle.drop_rail.proofs.Taken.{any_of, any_same, distinct_same, eq_self, filter_alike, item_in, kept_by, of_filter, only_item, passes}
 
-module _ (g : Grid) (words : List ℕ) (seats : List (Seated DropPhase)) (stopped : HasStopped table IsSound g words (views_of_all seats)) where
+module _ (g : Grid) (words : List ℕ) (seats : List (SeatedWith DropPhase Looks)) (stopped : HasStopped table IsSound g words (views_of_all seats)) where
   abbrev vs : List View
   vs = views_of_all seats
 
@@ -91,3 +99,12 @@ module _ (g : Grid) (words : List ℕ) (seats : List (Seated DropPhase)) (stoppe
         taken_once = apart;
         rest_left = read ∙ outcome.rest_left ∙ filter_alike (is_left g (length (in_order made)) taken) (is_left g (length (in_order made)) (taken_in_order seats)) (in_order made) left_same;
       }
+
+  -- each item that was looked at is accepted
+  pub looked_accepted : All (λ (x : SeatedWith DropPhase Looks). LooksHold g words vs x.memory) seats → All (HasSeenAccepted (in_order made)) seats
+  looked_accepted hold k d within i z inside =
+      let looks = (get_or seats k d).memory in
+      let item : Placed = get_or looks.looked i z in
+      let is : IsMade vs item = (hold k d within).looked i item (slice_get-get_or looks.looked i z inside) in
+      let stands : Contains made item = subst (λ (items : List Placed). Contains items item) (closes.made_is seats) (has_in (λ (v : View). v.made) vs is.seat is.number is.view item is.at is.there) in
+      Contains-permutation made (in_order made) item closed_accepted.all_made stands

@@ -4,17 +4,17 @@ use Rattle.std.specs.Prelude.{Bool, List, filter, ◌==◌}
 use Rattle.std.specs.List.{list_any}
 use Rattle.cursor_word.specs.Shape.{Grid}
 use Rattle.rail.specs.declared.entry.Placed.{Placed}
-use Rattle.call_steps.specs.Queue.{Closed, Seated}
+use Rattle.call_steps.specs.Queue.{Closed, SeatedWith}
 use Rattle.shared_seats.specs.Seats.{in_order, made_by_all, taken_by_all}
 
 -- an item of this place was taken
 abbrev pub is_taken : List Placed → Placed → Bool
 is_taken taken item = list_any (λ (t : Placed). t.place == item.place) taken
 
-abbrev pub taken_in_order : {P : Type 0} → List (Seated P) → List Placed
+abbrev pub taken_in_order : {P M : Type 0} → List (SeatedWith P M) → List Placed
 taken_in_order seats = filter (is_taken (taken_by_all seats)) (in_order (made_by_all seats))
 
-abbrev pub closed : {P : Type 0} → Grid → List (Seated P) → List Placed → Closed
+abbrev pub closed : {P M : Type 0} → Grid → List (SeatedWith P M) → List Placed → Closed
 closed g seats left =
     record {
       shape = g;

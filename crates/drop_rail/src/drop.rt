@@ -10,9 +10,13 @@ ghost use Rattle.step_log.specs.declared.log.Step.{Step};
 ghost use Rattle.drop_core.specs.Steps.{table};
 ghost use Rattle.drop_core.specs.declared.phase.DropPhase.{DropPhase};
 ghost use Rattle.call_steps.specs.Call.{TookSteps};
-ghost use Rattle.call_steps.specs.Queue.{IsFresh, IsSeatOf, Queue, Seated};
+ghost use Rattle.call_steps.specs.Queue.{IsFresh, IsSeatOf, Queue, SeatedWith};
 ghost use Rattle.shared_seats.specs.Seats.{made_by_all, taken_by_all};
+ghost use Rattle.block_looks.specs.declared.looks.Looks.{Looks};
+ghost use Rattle.block_looks.specs.Looks.{no_looks};
+ghost use Rattle.drop_rail.specs.Looking.{HasSeenAccepted};
 
+use block_looks::Looks;
 use call_steps::read_unreserved;
 use cursor_word::Shape;
 use drop_core::{DropPhase, drop_first_take};
@@ -22,14 +26,14 @@ use std::alloc::{AllocError, Global};
 use std::marker::Model;
 use std::snapshot::Snapshot;
 
-/// The token with which one caller puts and takes.
-pub type DropSeat = SharedSeat<DropPhase>;
+/// The token with which one caller puts, takes and looks.
+pub type DropSeat = SharedSeat<DropPhase, Looks>;
 
 /// A queue that drops its oldest block of entries when it is full. Each of its seats may be used from
 /// a thread of its own.
 #[derive(Drop)]
 pub struct DropRail {
-    queue: SharedQueue<DropPhase>,
+    pub(crate) queue: SharedQueue<DropPhase, Looks>,
 }
 
 impl Model for DropRail {
@@ -69,8 +73,9 @@ impl DropRail {
         ensures numbers { IfOk result (λ r. map (λ s. s.number) r.1.items
             ≡ numbers_below shape.seats) }
         ensures fresh { IfOk result (λ r. All (IsFresh r.0) r.1.items) }
+        ensures looks { IfOk result (λ r. All (λ s. s.memory ≡ no_looks) r.1.items) }
     {
-        let (queue, seats) = SharedQueue::<DropPhase>::make(alloc, shape)?;
+        let (queue, seats) = SharedQueue::<DropPhase, Looks>::make(alloc, shape)?;
         Ok((DropRail { queue }, seats))
     }
 
@@ -88,6 +93,7 @@ impl DropRail {
         ensures taken { IsPermutation (taken_by_all seats.items) result.taken }
         ensures order { IsRising (places result.taken) }
         ensures drop { DropOutcome result.shape result.accepted result.taken result.left }
+        ensures looked { All (HasSeenAccepted result.accepted) seats.items }
     {
         let before = Snapshot::of(&seats);
         let shape = self.queue.shape();
@@ -154,6 +160,7 @@ impl Rail for DropRail {
         ensures takes { (rail : Queue) → IsSeatOf rail seat.old → IsSeatOf rail seat.new }
         ensures number { seat.new.number ≡ seat.old.number }
         ensures taken { seat.new.view.taken ≡ seat.old.view.taken }
+        ensures looks { seat.new.memory ≡ seat.old.memory }
         ensures answer { Puts self.now.shape true entry.now seat.old.view.made seat.new.view.made
             seat.new.view.trail result }
         ensures told { seat.new.view.answer ≡ Some (answer.Put result) }
@@ -173,6 +180,7 @@ impl Rail for DropRail {
         ensures puts { (rail : Queue) → IsSeatOf rail seat.old → IsSeatOf rail seat.new }
         ensures number { seat.new.number ≡ seat.old.number }
         ensures made { seat.new.view.made ≡ seat.old.view.made }
+        ensures looks { seat.new.memory ≡ seat.old.memory }
         ensures answer { Takes self.now.shape true seat.new.view.made out.old out.new
             seat.old.view.taken seat.new.view.taken seat.new.view.trail result }
         ensures told { seat.new.view.answer ≡ Some (answer.Take result) }
@@ -190,20 +198,21 @@ impl Rail for DropRail {
         seats: Vec<Self::Seat>,
     ) -> Result<Self::Done, Refused<Self, Self::Seat>>
         requires seats { All (IsSeatOf self) seats.items }
-        requires all { IsPermutation (map (λ (s : Seated DropPhase). s.number) seats.items)
+        requires all { IsPermutation (map (λ (s : SeatedWith DropPhase Looks). s.number) seats.items)
             (numbers_below self.shape.seats) }
         ensures shape { IfOk result (λ done. done.shape ≡ self.shape) }
         ensures accepted { IfOk result
-            (λ done. IsAccepted (flat_map (λ (s : Seated DropPhase). s.view.made) seats.items)
+            (λ done. IsAccepted (flat_map (λ (s : SeatedWith DropPhase Looks). s.view.made) seats.items)
             done.accepted) }
         ensures taken { IfOk result
-            (λ done. IsPermutation (flat_map (λ (s : Seated DropPhase). s.view.taken) seats.items)
+            (λ done. IsPermutation (flat_map (λ (s : SeatedWith DropPhase Looks). s.view.taken) seats.items)
             done.taken) }
         ensures order { IfOk result (λ done. IsRising (places done.taken)) }
         ensures retry { true ≡ false
             → IfOk result (λ done. RetryOutcome done.accepted done.taken done.left) }
         ensures drop { true ≡ true
             → IfOk result (λ done. DropOutcome done.shape done.accepted done.taken done.left) }
+        ensures looked { IfOk result (λ done. All (HasSeenAccepted done.accepted) seats.items) }
         ensures refused { IfErr result (λ refused. (refused.rail ≡ self)
             × (refused.seats.items ≡ seats.items)) }
     {

@@ -2,5 +2,7 @@
 #![tactic(auto)]
 
 mod drop;
+mod looking;
 
+pub use block_looks::{Look, Seen};
 pub use drop::{DropDone, DropRail, DropSeat};

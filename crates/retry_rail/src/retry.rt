@@ -23,13 +23,13 @@ use std::marker::Model;
 use std::snapshot::Snapshot;
 
 /// The token with which one caller puts and takes.
-pub type RetrySeat = SharedSeat<Phase>;
+pub type RetrySeat = SharedSeat<Phase, ()>;
 
 /// A queue that refuses entries when it is full. Each of its seats may be used from a thread of its
 /// own.
 #[derive(Drop)]
 pub struct RetryRail {
-    queue: SharedQueue<Phase>,
+    queue: SharedQueue<Phase, ()>,
 }
 
 impl Model for RetryRail {
@@ -70,7 +70,7 @@ impl RetryRail {
             ≡ numbers_below shape.seats) }
         ensures fresh { IfOk result (λ r. All (IsFresh r.0) r.1.items) }
     {
-        let (queue, seats) = SharedQueue::<Phase>::make(alloc, shape)?;
+        let (queue, seats) = SharedQueue::<Phase, ()>::make(alloc, shape)?;
         Ok((RetryRail { queue }, seats))
     }
 

@@ -9,17 +9,17 @@ use Rattle.rail.specs.declared.entry.Placed.{Placed}
 use Rattle.machine.specs.declared.view.View.{View}
 use Rattle.machine.specs.Table.{Table}
 use Rattle.machine.specs.Invariant.{Fact, made_total}
-use Rattle.call_steps.specs.Queue.{Seated}
+use Rattle.call_steps.specs.Queue.{SeatedWith}
 use Rattle.shared_seats.specs.Seats.{HasStopped, in_order, made_by_all, taken_by_all, views_of_all}
 use Rattle.shared_seats.proofs.Ordered.{ordered}
 use Rattle.shared_seats.proofs.Stepped.{few_places}
 
-module _ {P : Type 0} (seats : List (Seated P)) where
+module _ {P M : Type 0} (seats : List (SeatedWith P M)) where
   pub made_is : flat_map (λ (v : View P). v.made) (views_of_all seats) ≡ made_by_all seats
-  made_is = flat_map-map (λ (v : View P). v.made) (λ (x : Seated P). x.view) seats
+  made_is = flat_map-map (λ (v : View P). v.made) (λ (x : SeatedWith P M). x.view) seats
 
   pub taken_is : flat_map (λ (v : View P). v.taken) (views_of_all seats) ≡ taken_by_all seats
-  taken_is = flat_map-map (λ (v : View P). v.taken) (λ (x : Seated P). x.view) seats
+  taken_is = flat_map-map (λ (v : View P). v.taken) (λ (x : SeatedWith P M). x.view) seats
 
   pub made_sum : made_total (views_of_all seats) ≡ length (made_by_all seats)
   made_sum = sym (length-flat_map (λ (v : View P). v.made) (views_of_all seats)) ∙ ap length made_is

@@ -13,8 +13,8 @@ use Rattle.shared_seats.specs.declared.holding.Holding.{Holding}
 use Rattle.rail.specs.Outcome.{numbers_below}
 use Rattle.machine.specs.Steps.{resting}
 use Rattle.shared_seats.specs.Holding.{first_seat, holding, joint_seats, other_seats}
-use Rattle.call_steps.specs.Queue.{Queue, Seated}
-use Rattle.shared_seats.specs.Seats.{Gathering, views_of_all}
+use Rattle.call_steps.specs.Queue.{Queue, SeatedWith}
+use Rattle.shared_seats.specs.Seats.{Gathering, memories_of_all, views_of_all}
 
 module _ {A : Type 0} where
   pub take_replicate : (n : ℕ) (x : A) → 0 < n → take 1 (replicate n x) ≡ x ∷ []
@@ -32,12 +32,12 @@ module _ {A : Type 0} where
     all_last : P x
     all_last = subst P (get_or-append_seam xs x [] x) (all (length xs) x (omega (arith, length-append xs (x ∷ []))))
 
-module _ {P : Type 0} (g : Grid) (n : ℕ) (v : Holding P) (is : v ≡ holding g (replicate n (resting P g))) (more : 0 < n) where
-  pub dealt : first_seat v ≡ holding g (resting P g ∷ [])
-  dealt = ap first_seat is ∙ ap (holding g) (take_replicate n (resting P g) more)
+module _ {P M : Type 0} (none : M) (g : Grid) (n : ℕ) (v : Holding P M) (is : v ≡ holding g (replicate n (resting P g)) (replicate n none)) (more : 0 < n) where
+  pub dealt : first_seat v ≡ holding g (resting P g ∷ []) (none ∷ [])
+  dealt = ap first_seat is ∙ ap (λ (vs : List (View P)). holding g vs (take 1 (replicate n none))) (take_replicate n (resting P g) more) ∙ ap (holding g (resting P g ∷ [])) (take_replicate n none more)
 
-  pub kept : other_seats v ≡ holding g (replicate (n - 1) (resting P g))
-  kept = ap other_seats is ∙ ap (holding g) (drop_replicate n (resting P g) more)
+  pub kept : other_seats v ≡ holding g (replicate (n - 1) (resting P g)) (replicate (n - 1) none)
+  kept = ap other_seats is ∙ ap (λ (vs : List (View P)). holding g vs (drop 1 (replicate n none))) (drop_replicate n (resting P g) more) ∙ ap (holding g (replicate (n - 1) (resting P g))) (drop_replicate n none more)
 
 range-snoc : (a n : ℕ) → range_with_len a (n + 1) ≡ range_with_len a n ++ (a + n) ∷ []
 range-snoc a zero = let e : a ≡ a + 0 = omega arith in ap (λ (k : ℕ). k ∷ []) e
@@ -45,8 +45,8 @@ range-snoc a (suc n) = let e : a + 1 + n ≡ a + suc n = omega arith in let f : 
     ap (range_with_len a) f ∙ ap (λ (xs : List ℕ). a ∷ xs) (range-snoc (a + 1) n ∙ ap (λ (k : ℕ). range_with_len (a + 1) n ++ k ∷ []) e)
 
 -- the next number goes to the next seat
-pub numbered : {P : Type 0} (xs : List (Seated P)) (x : Seated P) (n : ℕ) → map (λ (s : Seated P). s.number) xs ≡ numbers_below n → x.number ≡ n → map (λ (s : Seated P). s.number) (xs ++ x ∷ []) ≡ numbers_below (n + 1)
-numbered {P} xs x n e is = let z : n ≡ 0 + n = omega arith in map-append (λ (s : Seated P). s.number) xs (x ∷ []) ∙ ap (λ (ns : List ℕ). ns ++ x.number ∷ []) e ∙ ap (λ (k : ℕ). numbers_below n ++ k ∷ []) (is ∙ z) ∙ sym (range-snoc 0 n)
+pub numbered : {P M : Type 0} (xs : List (SeatedWith P M)) (x : SeatedWith P M) (n : ℕ) → map (λ (s : SeatedWith P M). s.number) xs ≡ numbers_below n → x.number ≡ n → map (λ (s : SeatedWith P M). s.number) (xs ++ x ∷ []) ≡ numbers_below (n + 1)
+numbered {P} {M} xs x n e is = let z : n ≡ 0 + n = omega arith in map-append (λ (s : SeatedWith P M). s.number) xs (x ∷ []) ∙ ap (λ (ns : List ℕ). ns ++ x.number ∷ []) e ∙ ap (λ (k : ℕ). numbers_below n ++ k ∷ []) (is ∙ z) ∙ sym (range-snoc 0 n)
 
 get_push : {A : Type 0} (xs : List A) (x : A) (i : ℕ) (y : A) → slice_get (xs ++ x ∷ []) i ≡ Some y → (slice_get xs i ≡ Some y) ⊎ (x ≡ y)
 get_push [] x zero y e = inr cc
@@ -54,42 +54,54 @@ get_push [] x (suc i) y e = cc
 get_push (z ∷ xs) x zero y e = inl e
 get_push (z ∷ xs) x (suc i) y e = get_push xs x i y e
 
-abbrev IsOf : {P : Type 0} → Queue → Seated P → Type 0
+abbrev IsOf : {P M : Type 0} → Queue → SeatedWith P M → Type 0
 IsOf q s = (s.of.id ≡ q.id) × (s.of.shape ≡ q.shape)
 
-views-snoc : {P : Type 0} (xs : List (Seated P)) (x : Seated P) → views_of_all (xs ++ x ∷ []) ≡ views_of_all xs ++ x.view ∷ []
-views-snoc {P} xs x = map-append (λ (s : Seated P). s.view) xs (x ∷ [])
+mapped-snoc : {P M A : Type 0} (f : SeatedWith P M → A) (xs : List (SeatedWith P M)) (x : SeatedWith P M) → map f (xs ++ x ∷ []) ≡ map f xs ++ f x ∷ []
+mapped-snoc f xs x = map-append f xs (x ∷ [])
 
-module _ {P : Type 0} (q : Queue) (left : List (Seated P)) (x : Seated P) (seat : Sitting (Holding P)) (id : seat.id ≡ x.of.id) (is : seat.view ≡ holding x.of.shape (x.view ∷ [])) (rests : x.view.phase ≡ None) where
+-- what one more seat has goes behind what was gathered before
+joins : {P M A : Type 0} (f : SeatedWith P M → A) (seats rest left : List (SeatedWith P M)) (x : SeatedWith P M) (have now : List A) → rest ≡ left ++ x ∷ [] → now ≡ have ++ f x ∷ [] → IsPermutation (map f seats) (have ++ map f rest) → IsPermutation (map f seats) (now ++ map f left)
+joins {P} {M} {A} f seats rest left x have now cut is old =
+    let ls = map f left in
+    let before : IsPermutation (map f seats) (have ++ (ls ++ f x ∷ [])) = subst (λ (us : List A). IsPermutation (map f seats) (have ++ us)) (ap (map f) cut ∙ mapped-snoc f left x) old in
+    let turned : IsPermutation (have ++ (ls ++ f x ∷ [])) (have ++ (f x ∷ [] ++ ls)) = IsPermutation-append_right have (ls ++ f x ∷ []) (f x ∷ [] ++ ls) (IsPermutation-append_comm ls (f x ∷ [])) in
+    let after = IsPermutation-trans (map f seats) (have ++ (ls ++ f x ∷ [])) (have ++ (f x ∷ [] ++ ls)) before turned in
+    subst (IsPermutation (map f seats)) (sym (append_assoc have (f x ∷ []) ls) ∙ ap (λ (us : List A). us ++ ls) (sym is)) after
+
+module _ {P M : Type 0} (q : Queue) (left : List (SeatedWith P M)) (x : SeatedWith P M) (seat : Sitting (Holding P M)) (id : seat.id ≡ x.of.id) (is : seat.view ≡ holding x.of.shape (x.view ∷ []) (x.memory ∷ [])) (rests : x.view.phase ≡ None) where
   its : seat.view.views ≡ x.view ∷ []
-  its = ap (λ (h : Holding P). h.views) is
+  its = ap (λ (h : Holding P M). h.views) is
+
+  memory_its : seat.view.memories ≡ x.memory ∷ []
+  memory_its = ap (λ (h : Holding P M). h.memories) is
 
   only_rests : (j : ℕ) (u : View P) → slice_get (x.view ∷ []) j ≡ Some u → u.phase ≡ None
   only_rests zero u e = let q : x.view ≡ u = cc in subst (λ (v : View P). v.phase ≡ None) q rests
   only_rests (suc j) u e = cc
 
-  pub begins : (seats : List (Seated P)) → seats ≡ left ++ x ∷ [] → All (IsOf q) seats → Gathering q seat left seats
+  pub begins : (seats : List (SeatedWith P M)) → seats ≡ left ++ x ∷ [] → All (IsOf q) seats → Gathering q seat left seats
   begins seats cut own = let own' = subst (All (IsOf q)) cut own in let mine = all_last (IsOf q) left x own' in
       record {
         same = id ∙ mine.0;
-        shape = ap (λ (h : Holding P). h.shape) is ∙ mine.1;
-        views = rw (cut, views-snoc left x, its) (IsPermutation-append_comm (views_of_all left) (x.view ∷ []));
+        shape = ap (λ (h : Holding P M). h.shape) is ∙ mine.1;
+        views = rw (cut, mapped-snoc (λ (s : SeatedWith P M). s.view) left x, its) (IsPermutation-append_comm (views_of_all left) (x.view ∷ []));
+        memories = rw (cut, mapped-snoc (λ (s : SeatedWith P M). s.memory) left x, memory_its) (IsPermutation-append_comm (memories_of_all left) (x.memory ∷ []));
         rest = λ j u e. only_rests j u (ap (λ (us : List (View P)). slice_get us j) (sym its) ∙ e);
         some_views = (let n = ap length its in omega arith);
         own = all_init (IsOf q) left x own';
       }
 
-  pub goes_on : (all next : Sitting (Holding P)) (rest seats : List (Seated P)) → Gathering q all rest seats → rest ≡ left ++ x ∷ [] → next.id ≡ all.id → next.view ≡ joint_seats all.view seat.view → Gathering q next left seats
+  pub goes_on : (all next : Sitting (Holding P M)) (rest seats : List (SeatedWith P M)) → Gathering q all rest seats → rest ≡ left ++ x ∷ [] → next.id ≡ all.id → next.view ≡ joint_seats all.view seat.view → Gathering q next left seats
   goes_on all next rest seats g cut same to = let own' = subst (All (IsOf q)) cut g.own in
-      let vs = all.view.views in let ls = views_of_all left in
-      let now : next.view.views ≡ vs ++ x.view ∷ [] = ap (λ (h : Holding P). h.views) to ∙ ap (λ (us : List (View P)). vs ++ us) its in
-      let before : IsPermutation (views_of_all seats) (vs ++ (ls ++ x.view ∷ [])) = subst (λ (us : List (View P)). IsPermutation (views_of_all seats) (vs ++ us)) (ap views_of_all cut ∙ views-snoc left x) g.views in
-      let turned : IsPermutation (vs ++ (ls ++ x.view ∷ [])) (vs ++ (x.view ∷ [] ++ ls)) = IsPermutation-append_right vs (ls ++ x.view ∷ []) (x.view ∷ [] ++ ls) (IsPermutation-append_comm ls (x.view ∷ [])) in
-      let after = IsPermutation-trans (views_of_all seats) (vs ++ (ls ++ x.view ∷ [])) (vs ++ (x.view ∷ [] ++ ls)) before turned in
+      let vs = all.view.views in let ms = all.view.memories in
+      let now : next.view.views ≡ vs ++ x.view ∷ [] = ap (λ (h : Holding P M). h.views) to ∙ ap (λ (us : List (View P)). vs ++ us) its in
+      let memory_now : next.view.memories ≡ ms ++ x.memory ∷ [] = ap (λ (h : Holding P M). h.memories) to ∙ ap (λ (us : List M). ms ++ us) memory_its in
       record {
         same = same ∙ g.same;
-        shape = ap (λ (h : Holding P). h.shape) to ∙ g.shape;
-        views = subst (IsPermutation (views_of_all seats)) (sym (append_assoc vs (x.view ∷ []) ls) ∙ ap (λ (us : List (View P)). us ++ ls) (sym now)) after;
+        shape = ap (λ (h : Holding P M). h.shape) to ∙ g.shape;
+        views = joins (λ (s : SeatedWith P M). s.view) seats rest left x vs next.view.views cut now g.views;
+        memories = joins (λ (s : SeatedWith P M). s.memory) seats rest left x ms next.view.memories cut memory_now g.memories;
         rest = λ j u e. ⊎_elim (λ old. g.rest j u old) (λ new. subst (λ (v : View P). v.phase ≡ None) new rests) (get_push vs x.view j u (ap (λ (us : List (View P)). slice_get us j) (sym now) ∙ e));
         some_views = (let n = ap length now in let s = g.some_views in omega (arith, length-append vs (x.view ∷ [])));
         own = all_init (IsOf q) left x own';

@@ -3,6 +3,8 @@ pub mod Held
 pub mod Gathered
 pub mod Starts
 pub mod Stepped
+pub mod Loaded
+pub mod Unmoved
 pub mod Stops
 pub mod Ordered
 pub mod Closes

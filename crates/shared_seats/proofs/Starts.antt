@@ -1,6 +1,6 @@
 -- The rule holds at the start.
 use Rattle.std.proofs.Common.{◌≡◌, ℕ, zero, suc, List, [], ◌∷◌, length, replicate, append-nil, sym, ap, ◌∙◌, subst, arith}
-use Rattle.std.specs.Prelude.{slice_get}
+use Rattle.std.specs.Prelude.{Some, slice_get}
 use Rattle.std.proofs.lemmas.List.{length-replicate}
 use mathlib.Core.Option.{some, some-injective, some-ne-none}
 use lib.ListN.{get_elem?}
@@ -12,20 +12,28 @@ use Rattle.machine.specs.Steps.{resting, start_words}
 use Rattle.machine.proofs.Lists.{get_replicate}
 use Rattle.call_steps.specs.Rule.{HasRoom}
 use Rattle.shared_seats.specs.declared.holding.Holding.{Holding}
+use Rattle.shared_seats.specs.Memory.{IsLasting, Knowledge}
 use Rattle.shared_seats.specs.Holding.{IsHeld, all_seats, views_of}
 
 only_first : {A : Type 0} (x : A) (at : ℕ) (y : A) → get_elem? (x ∷ []) at ≡ some y → y ≡ x
 only_first x zero y e = sym (some-injective x y e)
 only_first x (suc at) y e = absurd (some-ne-none y (sym e))
 
-pub starts_held : {P : Type 0} (t : Table P) (Holds : Fact P) → IsInvariant t Holds → (g : Grid) → IsWithinLimits g → IsHeld t Holds g (start_words g) (all_seats P g ∷ [])
-starts_held {P} t Holds law g limits =
-    let views : List (View P) = replicate g.seats (resting P g) in
-    let e : views ≡ views_of (all_seats P g ∷ []) = sym (append-nil views) in
-    record {
-      limits = limits;
-      shapes = λ at h get some. ap (λ (x : Holding P). x.shape) (only_first (all_seats P g) at h get);
-      holds = subst (Holds g (start_words g)) e (law.starts g limits);
-      all = ap length (sym e) ∙ length-replicate g.seats (resting P g);
-      few = λ j v get. let r : resting P g ≡ v = get_replicate g.seats (resting P g) j v (ap (λ (vs : List (View P)). slice_get vs j) e ∙ get) in subst (HasRoom t g) r (omega arith);
-    }
+module _ {P M : Type 0} (t : Table P) (Holds : Fact P) (Knows : Knowledge P M) (none : M) (lasting : IsLasting t Holds Knows none) (law : IsInvariant t Holds) (g : Grid) (limits : IsWithinLimits g) where
+  abbrev first : Holding P M
+  first = all_seats P none g
+
+  pub starts_held : IsHeld t Holds Knows g (start_words g) (first ∷ [])
+  starts_held =
+      let views : List (View P) = replicate g.seats (resting P g) in
+      let e : views ≡ views_of (first ∷ []) = sym (append-nil views) in
+      record {
+        limits = limits;
+        shapes = λ at h get some. ap (λ (x : Holding P M). x.shape) (only_first first at h get);
+        holds = subst (Holds g (start_words g)) e (law.starts g limits);
+        all = ap length (sym e) ∙ length-replicate g.seats (resting P g);
+        few = λ j v get. let r : resting P g ≡ v = get_replicate g.seats (resting P g) j v (ap (λ (vs : List (View P)). slice_get vs j) e ∙ get) in subst (HasRoom t g) r (omega arith);
+        memories = λ m is.
+            let own : slice_get (replicate g.seats none) is.number ≡ Some m = ap (λ (x : Holding P M). slice_get x.memories is.number) (sym (only_first first is.at is.seat is.stands)) ∙ is.there in
+            subst (Knows g (start_words g) (views_of (first ∷ []))) (get_replicate g.seats none is.number m own) (lasting.starts g (start_words g) (views_of (first ∷ [])));
+      }

@@ -1,2 +1,3 @@
+pub mod Memory
 pub mod Holding
 pub mod Seats

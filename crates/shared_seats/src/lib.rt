@@ -3,11 +3,13 @@
 #![tactic(auto)]
 
 mod holding;
+mod memory;
 mod queue;
 mod rule;
 mod seats;
 
 pub use holding::Holding;
+pub use memory::{LoadFact, Memory};
 pub use queue::SharedQueue;
 pub use rule::Holdings;
 pub use seats::{SharedSeat, totals};

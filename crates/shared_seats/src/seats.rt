@@ -3,10 +3,11 @@ ghost use Rattle.std.specs.Prelude.{◌≡◌, ℕ, ◌-◌, ◌^◌, ◌<◌, �
 ghost use Rattle.cursor_word.specs.Layout.{word_count};
 ghost use Rattle.rail.specs.Outcome.{numbers_below};
 ghost use Rattle.machine.specs.Steps.{AllRest, resting};
-ghost use Rattle.call_steps.specs.Queue.{IsFresh, Seated};
+ghost use Rattle.call_steps.specs.Queue.{IsFresh, SeatedWith};
 ghost use Rattle.shared_seats.specs.Holding.{all_seats, holding};
 ghost use Rattle.shared_seats.specs.Seats.{made_by_all, taken_by_all};
 
+use crate::memory::Memory;
 use crate::rule::{Deal, Holdings};
 use call_laws::SharedPhase;
 use cursor_word::Shape;
@@ -16,41 +17,45 @@ use step_log::{WordSeat, Words};
 
 /// The token with which one caller puts and takes.
 #[derive(Drop)]
-pub struct SharedSeat<P: SharedPhase> {
-    pub(crate) seat: WordSeat<Holdings<P>>,
+pub struct SharedSeat<P: SharedPhase, M: Memory<P>> {
+    pub(crate) seat: WordSeat<Holdings<P, M>>,
     number: u64,
     pub(crate) puts: u64,
     pub(crate) takes: u64,
 }
 
-impl<P: SharedPhase> Model for SharedSeat<P> {
+impl<P: SharedPhase, M: Memory<P>> Model for SharedSeat<P, M> {
     ghost use Rattle.std.specs.Prelude.{◌≡◌, ◌-◌, ◌^◌, ◌≤◌, [], ◌∷◌, None, length, min};
-    ghost use Rattle.call_steps.specs.Queue.{Seated};
-    ghost use Rattle.shared_seats.specs.Holding.{holding, view_in};
+    ghost use Rattle.call_steps.specs.Queue.{SeatedWith};
+    ghost use Rattle.shared_seats.specs.Holding.{holding, memory_in, view_in};
 
-    ghost Value = { Seated P };
+    ghost Value = { SeatedWith P M };
 
     ghost view = { λ s.
         record {
           of = record { id = s.seat.id; shape = s.seat.view.shape };
           number = s.number;
           view = view_in s.seat.view;
+          memory = memory_in M.none s.seat.view;
           log = s.seat.log;
         } };
 
-    ghost invariant = { λ s. (s.seat.view ≡ holding s.seat.view.shape (view_in s.seat.view ∷ []))
+    ghost invariant = { λ s. (s.seat.view ≡ holding s.seat.view.shape (view_in s.seat.view ∷ [])
+        (memory_in M.none s.seat.view ∷ []))
         × ((view_in s.seat.view).phase ≡ None) × (s.puts ≡ length (view_in s.seat.view).made)
         × (s.takes ≡ min (length (view_in s.seat.view).taken) (2 ^ 64 - 1)) };
 }
 
-impl<P: SharedPhase> SharedSeat<P> {
-    fn fresh(seat: WordSeat<Holdings<P>>, number: u64) -> SharedSeat<P>
-        requires { seat.view ≡ holding seat.view.shape (resting P seat.view.shape ∷ []) }
+impl<P: SharedPhase, M: Memory<P>> SharedSeat<P, M> {
+    fn fresh(seat: WordSeat<Holdings<P, M>>, number: u64) -> SharedSeat<P, M>
+        requires { seat.view
+            ≡ holding seat.view.shape (resting P seat.view.shape ∷ []) (M.none ∷ []) }
         ensures { result
             ≡ record {
               of = record { id = seat.id; shape = seat.view.shape };
               number = number;
               view = resting P seat.view.shape;
+              memory = M.none;
               log = seat.log;
             } }
     {
@@ -76,10 +81,10 @@ impl<P: SharedPhase> SharedSeat<P> {
         self.takes
     }
 
-    fn into_seat(self) -> WordSeat<Holdings<P>>
+    fn into_seat(self) -> WordSeat<Holdings<P, M>>
         ensures rest { self.view.phase ≡ None }
         ensures id { result.id ≡ self.of.id }
-        ensures view { result.view ≡ holding self.of.shape (self.view ∷ []) }
+        ensures view { result.view ≡ holding self.of.shape (self.view ∷ []) (self.memory ∷ []) }
     {
         let SharedSeat { seat, .. } = self;
         seat
@@ -87,32 +92,34 @@ impl<P: SharedPhase> SharedSeat<P> {
 }
 
 /// One seat for each number, from the seat that stands for all.
-pub(crate) fn deal<P: SharedPhase>(
+pub(crate) fn deal<P: SharedPhase, M: Memory<P>>(
     alloc: Global,
-    words: &Words<Holdings<P>>,
-    mut first: WordSeat<Holdings<P>>,
+    words: &Words<Holdings<P, M>>,
+    mut first: WordSeat<Holdings<P, M>>,
     shape: &Shape,
-) -> Result<Vec<SharedSeat<P>>, AllocError>
+) -> Result<Vec<SharedSeat<P, M>>, AllocError>
     requires words { (0 < words.now.id.words) × (words.now.key ≡ shape.now) }
-    requires first { (first.id ≡ words.now.id) × (first.view ≡ all_seats P shape.now) }
+    requires first { (first.id ≡ words.now.id) × (first.view ≡ all_seats P M.none shape.now) }
     ensures numbers { IfOk result (λ seats. map (λ s. s.number) seats.items
         ≡ numbers_below shape.now.seats) }
     ensures fresh { IfOk result
         (λ seats. All (IsFresh (record { id = words.now.id; shape = shape.now })) seats.items) }
+    ensures memories { IfOk result (λ seats. All (λ s. s.memory ≡ M.none) seats.items) }
 {
     P::seats();
+    M::lasts();
     let last = shape.seats() - 1;
     let mut seats = Vec::new(alloc);
     for number in 0..last {
         let seat = words.split::<Deal>(&mut first);
-        seats.push(SharedSeat::<P>::fresh(seat, number))?;
+        seats.push(SharedSeat::<P, M>::fresh(seat, number))?;
     }
-    seats.push(SharedSeat::<P>::fresh(first, last))?;
+    seats.push(SharedSeat::<P, M>::fresh(first, last))?;
     Ok(seats)
 }
 
 /// How many entries all seats put, and how many they took; at most 2^64 - 1.
-pub fn totals<P: SharedPhase>(seats: &[SharedSeat<P>]) -> (u64, u64)
+pub fn totals<P: SharedPhase, M: Memory<P>>(seats: &[SharedSeat<P, M>]) -> (u64, u64)
     ensures puts { result.0 ≡ min (length (made_by_all seats.now)) (2 ^ 64 - 1) }
     ensures takes { result.1 ≡ min (length (taken_by_all seats.now)) (2 ^ 64 - 1) }
 {
@@ -126,19 +133,21 @@ pub fn totals<P: SharedPhase>(seats: &[SharedSeat<P>]) -> (u64, u64)
 }
 
 /// One seat that stands for all others.
-pub(crate) fn gather<P: SharedPhase>(
-    words: &Words<Holdings<P>>,
-    mut seats: Vec<SharedSeat<P>>,
-) -> WordSeat<Holdings<P>>
+pub(crate) fn gather<P: SharedPhase, M: Memory<P>>(
+    words: &Words<Holdings<P, M>>,
+    mut seats: Vec<SharedSeat<P, M>>,
+) -> WordSeat<Holdings<P, M>>
     requires words { 0 < words.now.id.words }
     requires some { 0 < length seats.items }
     requires own { All (λ s. (s.of.id ≡ words.now.id) × (s.of.shape ≡ words.now.key)) seats.items }
     ensures id { result.id ≡ words.now.id }
     ensures shape { result.view.shape ≡ words.now.key }
     ensures views { IsPermutation (map (λ s. s.view) seats.items) result.view.views }
+    ensures memories { IsPermutation (map (λ s. s.memory) seats.items) result.view.memories }
     ensures rest { AllRest result.view.views }
 {
     P::seats();
+    M::lasts();
     let Some(last) = seats.pop() else {
         unreachable!()
     };

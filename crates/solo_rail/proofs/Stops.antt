@@ -42,7 +42,7 @@ module _ {P : Type 0} (t : Table P) (Holds : Fact P) (lone : LoneFacts P) (exact
       }
 
   -- the seat as clauses see it
-  pub stopped_seen : (key g : Grid) (h : Holding P) (seat : Seated P) (id : TableId) (log : List Step) (words : List ℕ) → record { of = record { id = id; shape = h.shape }; number = 0; view = h.view; log = log } ≡ seat → h.view.phase ≡ None → key ≡ g → Ends (IsHeld t lone key) h words
+  pub stopped_seen : (key g : Grid) (h : Holding P) (seat : Seated P) (id : TableId) (log : List Step) (words : List ℕ) → record { of = record { id = id; shape = h.shape }; number = 0; view = h.view; memory = tt; log = log } ≡ seat → h.view.phase ≡ None → key ≡ g → Ends (IsHeld t lone key) h words
       → HasStopped Holds g words seat.view
   stopped_seen key g h seat id log words seen rest same ends =
       subst (λ (k : Grid). HasStopped Holds k words seat.view) same (subst (λ (s : Seated P). HasStopped Holds key words s.view) seen (has_stopped key h words ends rest))

@@ -25,6 +25,7 @@ impl<P: LonePhase> Model for SoloSeat<P> {
           of = record { id = s.seat.id; shape = s.seat.view.shape };
           number = 0;
           view = s.seat.view.view;
+          memory = tt;
           log = s.seat.log;
         } };
 

@@ -9,7 +9,8 @@ abbrev pub invariant-loop-number : goal.invariant-loop-number
 invariant-loop-number g l = record {
   last : l.last + 1 ≡ l.shape.seats;
   same : l.first.id ≡ l.words.id;
-  view : l.first.view ≡ holding l.shape (replicate (l.shape.seats - l.number) (resting _ l.shape));
+  view : l.first.view ≡ holding l.shape (replicate (l.shape.seats - l.number) (resting _ l.shape)) (replicate (l.shape.seats - l.number) g.M.Memory.none);
   numbers : map (λ s. s.number) l.seats.items ≡ numbers_below l.number;
   fresh : All (IsFresh (record { id = l.words.id; shape = l.shape })) l.seats.items;
+  memories : All (λ s. s.memory ≡ g.M.Memory.none) l.seats.items;
 }

@@ -5,10 +5,12 @@ use Rattle.rail.specs.Items.{IsRising, places}
 use Rattle.rail.specs.Outcome.{DropOutcome, IsAccepted}
 use Rattle.drop_core.specs.declared.phase.DropPhase.{DropPhase}
 use Rattle.call_laws.specs.Left.{unreserved_in}
-use Rattle.call_steps.specs.Queue.{IsSeatOf, Seated}
+use Rattle.call_steps.specs.Queue.{IsSeatOf, SeatedWith}
 use Rattle.shared_seats.specs.Seats.{in_order, made_by_all, taken_by_all}
+use Rattle.block_looks.specs.declared.looks.Looks.{Looks}
+use Rattle.drop_rail.specs.Looking.{HasSeenAccepted}
 use Rattle.drop_rail.specs.Closed.{taken_in_order}
-use Rattle.drop_rail.proofs.Settled.{closed_accepted, closed_drop, closed_order, closed_taken, few_made}
+use Rattle.drop_rail.proofs.Settled.{closed_accepted, closed_drop, closed_order, closed_taken, few_made, looked_accepted}
 use Rattle.drop_rail.proofs.drop.DropRail.finish.Goals as goal
 
 pub stop-stopped-requires-clause-seats : goal.stop-stopped-requires-clause-seats
@@ -25,15 +27,15 @@ invariant_of-result c =
 
 pub returns-clause-accepted : goal.returns-clause-accepted
 returns-clause-accepted c = let seats = c.args.seats.items in
-    subst (λ (xs : List (Seated DropPhase)). IsAccepted (made_by_all seats) (in_order (made_by_all xs))) (sym (ap (λ v. v.items) c.of-before.ensures)) (closed_accepted _ _ _ c.stop-stopped.ensures.stopped)
+    subst (λ (xs : List (SeatedWith DropPhase Looks)). IsAccepted (made_by_all seats) (in_order (made_by_all xs))) (sym (ap (λ v. v.items) c.of-before.ensures)) (closed_accepted _ _ _ c.stop-stopped.ensures.stopped)
 
 pub returns-clause-taken : goal.returns-clause-taken
 returns-clause-taken c = let seats = c.args.seats.items in
-    subst (λ (xs : List (Seated DropPhase)). IsPermutation (taken_by_all seats) (taken_in_order xs)) (sym (ap (λ v. v.items) c.of-before.ensures)) (closed_taken _ _ _ c.stop-stopped.ensures.stopped)
+    subst (λ (xs : List (SeatedWith DropPhase Looks)). IsPermutation (taken_by_all seats) (taken_in_order xs)) (sym (ap (λ v. v.items) c.of-before.ensures)) (closed_taken _ _ _ c.stop-stopped.ensures.stopped)
 
 pub returns-clause-order : goal.returns-clause-order
 returns-clause-order c =
-    subst (λ (xs : List (Seated DropPhase)). IsRising (places (taken_in_order xs))) (sym (ap (λ v. v.items) c.of-before.ensures)) (closed_order _ _ _ c.stop-stopped.ensures.stopped)
+    subst (λ (xs : List (SeatedWith DropPhase Looks)). IsRising (places (taken_in_order xs))) (sym (ap (λ v. v.items) c.of-before.ensures)) (closed_order _ _ _ c.stop-stopped.ensures.stopped)
 
 pub read_unreserved-requires-clause-places : goal.read_unreserved-requires-clause-places
 read_unreserved-requires-clause-places c =
@@ -54,5 +56,9 @@ returns-clause-drop c = let seats = c.args.seats.items in let words = c.stop-sto
     ∙ (ap (λ h. unreserved_in h words c.args.from (c.args.from + (c.args.puts - c.args.from))) shape
     ∙ (ap (unreserved_in g words c.args.from) end ∙ ap (λ n. unreserved_in g words n (length made)) from))) in
     subst (λ h. DropOutcome h (in_order (made_by_all c.of-before.result.value.items)) (taken_in_order c.of-before.result.value.items) c.read_unreserved.new.left.items) (sym shape)
-    (subst (λ (xs : List (Seated DropPhase)). DropOutcome g (in_order (made_by_all xs)) (taken_in_order xs) c.read_unreserved.new.left.items) (sym (ap (λ v. v.items) c.of-before.ensures))
+    (subst (λ (xs : List (SeatedWith DropPhase Looks)). DropOutcome g (in_order (made_by_all xs)) (taken_in_order xs) c.read_unreserved.new.left.items) (sym (ap (λ v. v.items) c.of-before.ensures))
     (closed_drop _ words seats c.stop-stopped.ensures.stopped c.read_unreserved.new.left.items within left))
+
+pub returns-clause-looked : goal.returns-clause-looked
+returns-clause-looked c = let seats = c.args.seats.items in
+    subst (λ (xs : List (SeatedWith DropPhase Looks)). All (HasSeenAccepted (in_order (made_by_all xs))) seats) (sym (ap (λ v. v.items) c.of-before.ensures)) (looked_accepted _ _ _ c.stop-stopped.ensures.stopped c.stop-stopped.ensures.memories)

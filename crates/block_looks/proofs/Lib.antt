@@ -1,0 +1,5 @@
+pub mod Blocks
+pub mod Wholes
+pub mod Grows
+pub mod Lasts
+pub mod Loads

@@ -1,0 +1,4 @@
+pub mod Table
+pub mod Looks
+pub mod Shown
+pub mod Laws
