@@ -1,18 +1,18 @@
 -- How `clap` walks over a line that is written from uses.
 use Rattle.std.proofs.Common.{◌≡◌, Bool, true, false, ◌&&◌, List, [], ◌∷◌, ◌++◌, Option, Some, None, refl, sym, ap, ap₂, ◌∙◌, codes, subst, Ok}
-use Rattle.std.specs.Prelude.{not, ◌||◌, is_some, if◌then◌else◌, option_and_then, ◌==◌, fold}
+use Rattle.std.specs.Prelude.{not, ◌||◌, is_some, if◌then◌else◌, option_and_then, take, drop, ◌==◌, fold}
 use Rattle.std.specs.Str.{bytes_eq}
 use Rattle.clap.specs.Lexer.{long_of, short_of, strip_byte, long_of_rest, short_of_rest}
 use Rattle.clap.specs.Walk.{Held, Row, Rule, Text, Waiting, Walk, has_row, idle, positional, option, settled_rows, walked, with_values, without, pushed, settled, with_default, default_rows, reading_by, is_empty, finished}
-use Rattle.clap.specs.Simple.{Shape, built, entered, matches_of}
+use Rattle.clap.specs.Simple.{Shape, built, entered, filled, matches_of, with_index}
 use Rattle.clap.specs.Kinds.{Kinds, or_else}
 use Rattle.clap.specs.Faults.{settle_fault, turn_fault, walk_fault, fault_of, entered_fault, defaults_fault, check_fault, default_fault, given_default_fault}
 use Rattle.clap.specs.declared.error.kind.ErrorKind.TheVariants as kind
 use Rattle.clap.specs.declared.builder.value_parser.Reading.TheVariants.{AsWritten}
 use Rattle.clap.specs.declared.parser.matches.ValueSource.TheVariants.{CommandLine}
-use Rattle.command_words.specs.Command.{profile_app, read_words}
+use Rattle.command_words.specs.Command.{flag_rule, profile_app, read_words}
 use Rattle.command_words.proofs.ClapReading.{read_as_found}
-use Rattle.command_words.specs.Uses.{Named, Use, name_of, is_plain, mode, workers, blocks, size, piece, trace, generate, spaced, joined, file, words_of}
+use Rattle.command_words.specs.Uses.{Named, Use, name_of, is_plain, mode, workers, blocks, size, piece, trace, generate, spaced, joined, flag, file, words_of}
 
 abbrev pub shape : Shape
 shape = (built profile_app).top
@@ -39,9 +39,15 @@ pending_fault rows pending = settle_fault shape.rules false (held_at rows pendin
 abbrev pub settled_at : List Row → Option (Text × List Text) → List Row
 settled_at rows pending = settled_rows shape.rules pending rows
 
--- an option with its value, and one more FILE
+-- an option with its value, the flag, and one more FILE
+abbrev pub alone : Text → Text → List Row → List Row
+alone k v rows = with_values k AsWritten CommandLine (v ∷ []) (without k rows)
+
 abbrev pub set : Named → Text → List Row → List Row
-set n v rows = with_values (name_of n) AsWritten CommandLine (v ∷ []) (without (name_of n) rows)
+set n v rows = alone (name_of n) v rows
+
+abbrev pub mark : List Row → List Row
+mark rows = alone (codes "fold") (codes "true") rows
 
 abbrev pub add : Text → List Row → List Row
 add v rows = with_values (codes "FILE") AsWritten CommandLine (v ∷ []) rows
@@ -49,6 +55,7 @@ add v rows = with_values (codes "FILE") AsWritten CommandLine (v ∷ []) rows
 abbrev pub told : List Row → Use → List Row
 told rows (spaced n v) = set n v rows
 told rows (joined n v) = set n v rows
+told rows flag = mark rows
 told rows (file v) = add v rows
 
 one_dash : (t : Bool) → option_and_then long_of_rest (option_and_then (strip_byte 45) (if t then Some [] else None)) ≡ None
@@ -123,6 +130,11 @@ joined_walked trace false v rows p = refl
 joined_walked generate true v rows p = refl
 joined_walked generate false v rows p = refl
 
+flag_walked : (b : Bool) (rows : List Row) (p : Option (Text × List Text)) → walked shape.rules [] (between rows p b) (codes "--fold") ≡ between (mark (settled_at rows p)) None false
+unfolding walked
+flag_walked true rows p = refl
+flag_walked false rows p = refl
+
 value_walked : (n : Named) (v : Text) (rows : List Row) → IsValue v → walked shape.rules [] (walk_at rows (Some (name_of n, [])) (option (name_of n))) v ≡ between rows (Some (name_of n, v ∷ [])) false
 unfolding walked
 value_walked mode v rows is = rw (is.rest, is.long, is.short) refl
@@ -190,24 +202,28 @@ pending_once trace v rows e = once_fault _ e
 pending_once generate v rows e = once_fault _ e
 
 -- what was pending and the joined value leave no fault
-either_once : (n : Named) (rows : List Row) (p : Option (Text × List Text)) → pending_fault rows p ≡ [] → has_row (name_of n) (settled_at rows p) ≡ false → or_else (or_else (pending_fault rows p) (or_else (if has_row (name_of n) (settled_at rows p) && true then kind.ArgumentConflict ∷ [] else []) [])) [] ≡ []
-either_once n rows p e once = ap (λ (k : Kinds). or_else (or_else k (or_else (if has_row (name_of n) (settled_at rows p) && true then kind.ArgumentConflict ∷ [] else []) [])) []) e ∙ ap (λ (k : Kinds). or_else k []) (once_fault _ once)
+either_once : (k : Text) (rows : List Row) (p : Option (Text × List Text)) → pending_fault rows p ≡ [] → has_row k (settled_at rows p) ≡ false → or_else (or_else (pending_fault rows p) (or_else (if has_row k (settled_at rows p) && true then kind.ArgumentConflict ∷ [] else []) [])) [] ≡ []
+either_once k rows p e once = ap (λ (x : Kinds). or_else (or_else x (or_else (if has_row k (settled_at rows p) && true then kind.ArgumentConflict ∷ [] else []) [])) []) e ∙ ap (λ (x : Kinds). or_else x []) (once_fault _ once)
 
 joined_fault : (n : Named) (b : Bool) (v : Text) (rows : List Row) (p : Option (Text × List Text)) → pending_fault rows p ≡ [] → has_row (name_of n) (settled_at rows p) ≡ false → turn_fault shape [] (between rows p b) (45 ∷ 45 ∷ (name_of n ++ 61 ∷ v)) ≡ []
-joined_fault mode true v rows p e once = either_once mode rows p e once
-joined_fault mode false v rows p e once = either_once mode rows p e once
-joined_fault workers true v rows p e once = either_once workers rows p e once
-joined_fault workers false v rows p e once = either_once workers rows p e once
-joined_fault blocks true v rows p e once = either_once blocks rows p e once
-joined_fault blocks false v rows p e once = either_once blocks rows p e once
-joined_fault size true v rows p e once = either_once size rows p e once
-joined_fault size false v rows p e once = either_once size rows p e once
-joined_fault piece true v rows p e once = either_once piece rows p e once
-joined_fault piece false v rows p e once = either_once piece rows p e once
-joined_fault trace true v rows p e once = either_once trace rows p e once
-joined_fault trace false v rows p e once = either_once trace rows p e once
-joined_fault generate true v rows p e once = either_once generate rows p e once
-joined_fault generate false v rows p e once = either_once generate rows p e once
+joined_fault mode true v rows p e once = either_once (name_of mode) rows p e once
+joined_fault mode false v rows p e once = either_once (name_of mode) rows p e once
+joined_fault workers true v rows p e once = either_once (name_of workers) rows p e once
+joined_fault workers false v rows p e once = either_once (name_of workers) rows p e once
+joined_fault blocks true v rows p e once = either_once (name_of blocks) rows p e once
+joined_fault blocks false v rows p e once = either_once (name_of blocks) rows p e once
+joined_fault size true v rows p e once = either_once (name_of size) rows p e once
+joined_fault size false v rows p e once = either_once (name_of size) rows p e once
+joined_fault piece true v rows p e once = either_once (name_of piece) rows p e once
+joined_fault piece false v rows p e once = either_once (name_of piece) rows p e once
+joined_fault trace true v rows p e once = either_once (name_of trace) rows p e once
+joined_fault trace false v rows p e once = either_once (name_of trace) rows p e once
+joined_fault generate true v rows p e once = either_once (name_of generate) rows p e once
+joined_fault generate false v rows p e once = either_once (name_of generate) rows p e once
+
+flag_fault : (b : Bool) (rows : List Row) (p : Option (Text × List Text)) → pending_fault rows p ≡ [] → has_row (codes "fold") (settled_at rows p) ≡ false → turn_fault shape [] (between rows p b) (codes "--fold") ≡ []
+flag_fault true rows p e once = either_once (codes "fold") rows p e once
+flag_fault false rows p e once = either_once (codes "fold") rows p e once
 
 either_empty : (b : Bool) (k : Kinds) → k ≡ [] → (if b then [] else k) ≡ []
 either_empty true k e = refl
@@ -224,6 +240,7 @@ abbrev pub FitsFrom : List Row → List Use → Type 0
 FitsFrom rows [] = Unit {0}
 FitsFrom rows (spaced n v ∷ uses) = (has_row (name_of n) rows ≡ false) × (is_plain v ≡ true) × FitsFrom (set n v rows) uses
 FitsFrom rows (joined n v ∷ uses) = (has_row (name_of n) rows ≡ false) × FitsFrom (set n v rows) uses
+FitsFrom rows (flag ∷ uses) = (has_row (codes "fold") rows ≡ false) × FitsFrom (mark rows) uses
 FitsFrom rows (file v ∷ uses) = (is_plain v ≡ true) × FitsFrom (add v rows) uses
 
 -- the walk takes the words, and what is settled at its end are these rows
@@ -270,6 +287,9 @@ module _ (tail : List Text) (more : List Row → List Row) (go : (rows : List Ro
   walks (joined n v ∷ uses) rows p b e fits =
       one_word _ _ _ _ _ (joined_fault n b v rows p e fits.0) (joined_walked n b v rows p)
       (walks uses (set n v (settled_at rows p)) None false refl fits.1)
+  walks (flag ∷ uses) rows p b e fits =
+      one_word _ _ _ _ _ (flag_fault b rows p e fits.0) (flag_walked b rows p)
+      (walks uses (mark (settled_at rows p)) None false refl fits.1)
   walks (file v ∷ uses) rows p b e fits =
       let is = plain_value v fits.0 in
       one_word _ _ _ _ _ (file_fault b v rows p is e) (file_walked b v rows p is)
@@ -308,7 +328,7 @@ dashes_fault false rows p = refl
 behind_dashes : (words : List Text) (rows : List Row) (p : Option (Text × List Text)) (b : Bool) → pending_fault rows p ≡ [] → Walks (between rows p b) ((45 ∷ 45 ∷ []) ∷ words) (fold add_more (settled_at rows p) words)
 behind_dashes words rows p b e = one_word _ _ _ _ _ (dashes_fault b rows p) (dashes_walked b rows p) (trails words rows p b e)
 
--- ---- defaults: there are none
+-- ---- defaults: the flag has one
 
 abbrev pub HaveNoDefaults : List Rule → Type 0
 HaveNoDefaults [] = Unit {0}
@@ -337,8 +357,47 @@ unfolding defaults_fault
 defaults_pass [] rows none = refl
 defaults_pass (a ∷ c) rows none = ap₂ or_else (default_passes a rows none.0) (ap (λ x. defaults_fault x c) (default_kept a rows none.0) ∙ defaults_pass c rows none.1)
 
-profile_defaults : HaveNoDefaults shape.rules
-profile_defaults = (refl, (refl, (refl, (refl, (refl, (refl, (refl, (refl, (refl, tt)))))))))
+module _ (front back : List Rule) (a : Rule) (no_front : HaveNoDefaults front) (no_back : HaveNoDefaults back) where
+  defaults_kept_around : (rows : List Row) → fold with_default rows (front ++ a ∷ back) ≡ with_default rows a
+  defaults_kept_around rows = around front no_front rows
+    where
+      around : (front : List Rule) → HaveNoDefaults front → (rows : List Row) → fold with_default rows (front ++ a ∷ back) ≡ with_default rows a
+      around [] none rows = defaults_kept back (with_default rows a) no_back
+      around (r ∷ rs) none rows = ap (λ x. fold with_default x (rs ++ a ∷ back)) (default_kept r rows none.0) ∙ around rs none.1 rows
+
+  defaults_pass_around : ((rows : List Row) → default_fault rows a ≡ []) → (rows : List Row) → defaults_fault rows (front ++ a ∷ back) ≡ []
+  unfolding defaults_fault
+  defaults_pass_around pass rows = around front no_front rows
+    where
+      around : (front : List Rule) → HaveNoDefaults front → (rows : List Row) → defaults_fault rows (front ++ a ∷ back) ≡ []
+      around [] none rows = ap₂ or_else (pass rows) (defaults_pass back (with_default rows a) no_back)
+      around (r ∷ rs) none rows = ap₂ or_else (default_passes r rows none.0) (ap (λ x. defaults_fault x (rs ++ a ∷ back)) (default_kept r rows none.0) ∙ around rs none.1 rows)
+
+abbrev fold_rule : Rule
+fold_rule = with_index 1 (filled (flag_rule (codes "fold")))
+
+or_nothing : (b : Bool) (k : Kinds) → k ≡ [] → (if b || false then [] else k) ≡ []
+or_nothing true k e = refl
+or_nothing false k e = e
+
+fold_passes : (rows : List Row) → default_fault rows fold_rule ≡ []
+fold_passes rows = or_nothing (has_row (codes "fold") rows) (given_default_fault fold_rule fold_rule.defaults) refl
+
+-- the rows with the flag's default, where it isn't given
+abbrev pub completed : List Row → List Row
+completed rows = with_default rows fold_rule
+
+no_front_defaults : HaveNoDefaults (take 7 shape.rules)
+no_front_defaults = (refl, (refl, (refl, (refl, (refl, (refl, (refl, tt)))))))
+
+no_back_defaults : HaveNoDefaults (drop 8 shape.rules)
+no_back_defaults = (refl, (refl, tt))
+
+rules_kept : (rows : List Row) → fold with_default rows shape.rules ≡ completed rows
+rules_kept rows = defaults_kept_around (take 7 shape.rules) (drop 8 shape.rules) fold_rule no_front_defaults no_back_defaults rows
+
+rules_pass : (rows : List Row) → defaults_fault rows shape.rules ≡ []
+rules_pass rows = defaults_pass_around (take 7 shape.rules) (drop 8 shape.rules) fold_rule no_front_defaults no_back_defaults fold_passes rows
 
 -- ---- the reading
 
@@ -356,26 +415,26 @@ module _ (words : List Text) (rows : List Row) (w : Walks (between [] None false
   no_fault : fault_of profile_app (codes "bbq-profile" ∷ words) ≡ []
   no_fault =
       ap (level words) w.end
-      ∙ all_pass _ _ _ w.fault w.settles (defaults_pass shape.rules (settled_at w.held w.pending) profile_defaults)
+      ∙ all_pass _ _ _ w.fault w.settles (rules_pass (settled_at w.held w.pending))
 
-  found : matches_of profile_app (codes "bbq-profile" ∷ words) ≡ rows
-  found = ap (λ (x : Walk). finished shape.rules x.held) w.end ∙ (defaults_kept shape.rules (settled_at w.held w.pending) profile_defaults ∙ w.are)
+  found : matches_of profile_app (codes "bbq-profile" ∷ words) ≡ completed rows
+  found = ap (λ (x : Walk). finished shape.rules x.held) w.end ∙ (rules_kept (settled_at w.held w.pending) ∙ ap completed w.are)
 
-  walked_reading : read_words words ≡ Ok rows
-  walked_reading = read_as_found (codes "bbq-profile" ∷ words) rows no_fault (sym found)
+  walked_reading : read_words words ≡ Ok (completed rows)
+  walked_reading = read_as_found (codes "bbq-profile" ∷ words) (completed rows) no_fault (sym found)
 
 nothing_more : (words : List Text) → words ++ [] ≡ words
 nothing_more [] = refl
 nothing_more (w ∷ words) = ap (λ (ws : List Text). w ∷ ws) (nothing_more words)
 
 -- what is read of the words of uses
-pub uses_reading : (uses : List Use) → FitsFrom [] uses → read_words (words_of uses) ≡ Ok (fold told [] uses)
+pub uses_reading : (uses : List Use) → FitsFrom [] uses → read_words (words_of uses) ≡ Ok (completed (fold told [] uses))
 uses_reading uses fits =
     ap read_words (sym (nothing_more (words_of uses)))
     ∙ walked_reading (words_of uses ++ []) (fold told [] uses) (walks [] (λ rows. rows) (no_words false) uses [] None false refl fits)
 
 -- and with more words behind `--`
-pub trailing_reading : (uses : List Use) (words : List Text) → FitsFrom [] uses → read_words (words_of uses ++ codes "--" ∷ words) ≡ Ok (fold add_more (fold told [] uses) words)
+pub trailing_reading : (uses : List Use) (words : List Text) → FitsFrom [] uses → read_words (words_of uses ++ codes "--" ∷ words) ≡ Ok (completed (fold add_more (fold told [] uses) words))
 trailing_reading uses words fits =
     walked_reading (words_of uses ++ codes "--" ∷ words) (fold add_more (fold told [] uses) words)
     (walks ((45 ∷ 45 ∷ []) ∷ words) (λ rows. fold add_more rows words) (behind_dashes words) uses [] None false refl fits)

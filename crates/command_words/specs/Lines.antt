@@ -1,5 +1,5 @@
 -- Worked lines.
-use Rattle.std.specs.Prelude.{◌≡◌, ◌==◌, List, [], ◌∷◌, codes, None, Some, Result, Ok, Err}
+use Rattle.std.specs.Prelude.{◌≡◌, ◌==◌, true, false, List, [], ◌∷◌, codes, None, Some, Result, Ok, Err}
 use Rattle.std.specs.List.{AllByRecursion, slice_split}
 use Rattle.clap.specs.Words.{Text}
 use Rattle.command_words.specs.Usage.{Asked, usage}
@@ -17,6 +17,7 @@ asked_files files = record {
   piece = 65536;
   trace = codes "trace.json";
   generate = None;
+  fold = false;
   files = files;
 }
 
@@ -63,6 +64,9 @@ worked_options =
     ∷ asks (codes "--generate 5") (record (asked_files []) { generate = Some 5 })
     ∷ asks (codes "--generate=10000000 a")
     (record (asked_files (line (codes "a"))) { generate = Some 10000000 })
+    ∷ asks (codes "--fold a") (record (asked_files (line (codes "a"))) { fold = true })
+    ∷ asks (codes "a --size 2 --fold b")
+    (record (asked_files (line (codes "a b"))) { size = 2; fold = true })
     ∷ asks (codes "--workers 007 a") (record (asked_files (line (codes "a"))) { workers = 7 })
     ∷ asks (codes "--workers 0000000000000000000000000000000000000009 a")
     (record (asked_files (line (codes "a"))) { workers = 9 })
@@ -81,6 +85,9 @@ worked_words =
     ∷ refused (codes "--trace -- a") Words
     ∷ refused (codes "--nosuch") Words
     ∷ refused (codes "--workers 0 --nosuch a") Words
+    ∷ refused (codes "--fold --fold a") Words
+    ∷ refused (codes "--fold=true a") Words
+    ∷ refused (codes "--trace --fold a") Words
     ∷ refused (codes "a --help") Words
     ∷ refused (codes "-h") Words
     ∷ refused (codes "--version") Words

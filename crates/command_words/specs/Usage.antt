@@ -1,5 +1,5 @@
 -- How the words of the command are read, and how they are refused.
-use Rattle.std.specs.Prelude.{ℕ, ◌≡◌, ◌≤◌, string_bytes, ◌&&◌, nat_le, if◌then◌else◌, List, [], ◌∷◌, codes, Option, Some, None, IfSome, is_none, length, ◌==◌, unwrap_or, option_map, Result, Ok, Err}
+use Rattle.std.specs.Prelude.{ℕ, ◌≡◌, ◌≤◌, Bool, false, string_bytes, ◌&&◌, nat_le, if◌then◌else◌, List, [], ◌∷◌, codes, Option, Some, None, IfSome, is_none, length, ◌==◌, unwrap_or, option_map, Result, Ok, Err}
 use Rattle.std.specs.Option.{ok_or}
 use Rattle.std.specs.Str.{bytes_eq, all_ascii_digits}
 use Rattle.std.specs.Str.Parse.{digits_value}
@@ -25,6 +25,7 @@ pub record Asked : Type 0 where
   pub piece : ℕ
   pub trace : Text
   pub generate : Option ℕ
+  pub fold : Bool
   pub files : List Text
 
 infixl 10 ◌>>=◌
@@ -72,7 +73,12 @@ some_input generate files = if is_none generate && length files == 0 then Err In
 abbrev pub files_in : List Row → List Text
 files_in found = unwrap_or (all_of (codes "FILE") found) []
 
--- the values as they stand on the line, and the FILEs
+-- a flag is given: it has the value `true`, and `false` where it isn't given
+abbrev pub is_on : Option Text → Bool
+is_on None = false
+is_on (Some value) = bytes_eq value (codes "true")
+
+-- the values as they stand on the line, whether the flag does, and the FILEs
 pub record Given : Type 0 where
   pub mode : Option Text
   pub workers : Option Text
@@ -81,6 +87,7 @@ pub record Given : Type 0 where
   pub piece : Option Text
   pub trace : Option Text
   pub generate : Option Text
+  pub fold : Bool
   pub files : List Text
 
 abbrev pub given_by : List Row → Given
@@ -92,6 +99,7 @@ given_by found = record {
   piece = first_of (codes "piece") found;
   trace = first_of (codes "trace") found;
   generate = first_of (codes "generate") found;
+  fold = is_on (first_of (codes "fold") found);
   files = files_in found;
 }
 
@@ -113,6 +121,7 @@ asked_by given = do
     piece = piece;
     trace = unwrap_or given.trace (codes "trace.json");
     generate = generate;
+    fold = given.fold;
     files = files;
   })
 
@@ -130,6 +139,7 @@ asked_of o = record {
   piece = o.piece;
   trace = string_bytes o.trace;
   generate = o.generate;
+  fold = o.fold;
   files = bytes_of o.files.items;
 }
 

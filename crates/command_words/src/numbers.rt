@@ -1,5 +1,5 @@
 //! Numbers among the values of the options.
-ghost use Rattle.std.specs.Prelude.{◌≡◌, ◌≤◌, IfOk};
+ghost use Rattle.std.specs.Prelude.{◌≡◌, ◌≤◌, IfOk, IfSome};
 ghost use Rattle.std.specs.Option.{option_copied};
 ghost use Rattle.command_words.specs.Usage.{number_within, number_or, number_if};
 
@@ -47,7 +47,8 @@ pub(crate) fn number_if(
     most: u64,
     value: Option<&str>,
 ) -> Result<Option<u64>, Refusal>
-    ensures { result ≡ number_if refusal least most (option_copied value.entry) }
+    ensures number { result ≡ number_if refusal least most (option_copied value.entry) }
+    ensures most { IfOk result (λ number. IfSome number (λ value. value ≤ most)) }
 {
     match value {
         None => Ok(None),

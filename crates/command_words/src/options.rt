@@ -2,10 +2,10 @@
 ghost use Rattle.std.specs.Prelude.{◌≡◌, ◌≢◌, ◌≤◌, ◌<◌, ◌⊎◌, ◌∷◌, false, Some, None, IfOk, IfErr, Ok, Err, MatchResult, codes, length};
 ghost use Rattle.std.specs.Option.{option_copied};
 ghost use Rattle.clap.specs.Words.{all_of, app_of, first_of, found_of, rows_of, rule_of};
-ghost use Rattle.command_words.specs.Command.{file_rule, option_rule, profile_app, read_line, read_words};
+ghost use Rattle.command_words.specs.Command.{file_rule, flag_rule, option_rule, profile_app, read_line, read_words};
 ghost use Rattle.command_words.specs.Refusals.{IfRefused};
 ghost use Rattle.command_words.specs.Texts.{bytes_of, texts_of};
-ghost use Rattle.command_words.specs.Usage.{IsWithinLimits, asked_by, asked_of, files_in, given_by, mode_or, some_input, usage};
+ghost use Rattle.command_words.specs.Usage.{IsWithinLimits, asked_by, asked_of, files_in, given_by, is_on, mode_or, some_input, usage};
 
 use crate::numbers::{number_if, number_or};
 use crate::refusal::{ReadError, Refusal};
@@ -37,6 +37,8 @@ pub struct Options {
     pub piece: usize,
     pub trace: String,
     pub generate: Option<u64>,
+    /// The folded times are to be stored too.
+    pub fold: bool,
     pub files: Vec<String>,
 }
 
@@ -60,6 +62,14 @@ fn option<'a>(alloc: Global, name: &'a str) -> Arg<'a>
     Arg::new(alloc, name).long(name)
 }
 
+/// A flag, which takes no value: `--name`.
+fn flag<'a>(alloc: Global, name: &'a str) -> Arg<'a>
+    ensures rule { rule_of result ≡ flag_rule name.entry.now }
+    ensures local { result.global ≡ false }
+{
+    Arg::new(alloc, name).long(name).action(ArgAction::SetTrue)
+}
+
 /// The FILEs: a positional that takes any number of values, one at each use.
 fn file<'a>(alloc: Global) -> Arg<'a>
     ensures rule { rule_of result ≡ file_rule }
@@ -80,6 +90,7 @@ fn profile_command<'a>(alloc: Global) -> Result<Command<'a>, AllocError>
         .arg(option(alloc, "piece"))?
         .arg(option(alloc, "trace"))?
         .arg(option(alloc, "generate"))?
+        .arg(flag(alloc, "fold"))?
         .arg(file(alloc))
 }
 
@@ -109,6 +120,16 @@ fn value_of<'a>(found: &ArgMatches<'a>, name: &str) -> Option<&'a str>
     ensures { option_copied result ≡ first_of name.now (rows_of (found_of found.now)) }
 {
     found.get_str(name)
+}
+
+/// The flag is given.
+fn is_set(found: &ArgMatches<'_>, name: &str) -> bool
+    ensures { result ≡ is_on (first_of name.now (rows_of (found_of found.now))) }
+{
+    match value_of(found, name) {
+        Some(value) => value == "true",
+        None => false,
+    }
 }
 
 /// The same texts, in memory of their own.
@@ -173,6 +194,7 @@ fn asked(alloc: Global, found: &ArgMatches<'_>) -> Result<Options, ReadError>
         piece: piece as usize,
         trace: String::from_str(alloc, trace)?,
         generate,
+        fold: is_set(found, "fold"),
         files,
     })
 }

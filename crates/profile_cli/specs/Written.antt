@@ -1,10 +1,11 @@
 -- What a run writes: the counts, and behind them the documents of the trace store.
-use Rattle.std.specs.Prelude.{◌≡◌, ℕ, ◌<◌, ◌⊎◌, List, [], ◌∷◌, ◌++◌, length, map, take, Option, Some, IfSome}
+use Rattle.std.specs.Prelude.{◌≡◌, ℕ, ◌<◌, ◌⊎◌, Bool, true, false, List, [], ◌∷◌, ◌++◌, length, map, take, codes, Option, Some, IfSome}
 use Rattle.flow_io.specs.Flow.{Files, Rose, gained, GainedPart}
 use Rattle.rail.specs.declared.entry.Placed.{Placed}
 use Rattle.span_words.specs.declared.span.SpanEvent.{SpanEvent}
 use Rattle.span_words.specs.Span.{spelling}
 use Rattle.span_recorder.specs.Events.{events_of}
+use Rattle.span_fold.specs.Folded.{folded, folded_text}
 use Rattle.trace_json.specs.Trace.{trace_text}
 use Rattle.profile_cli.specs.declared.ending.Ending.{Ending}
 use Rattle.profile_cli.specs.declared.ending.Ending.TheVariants.{Done, OutOfMemory, CountsUnwritten, TraceUnwritten}
@@ -24,17 +25,33 @@ pub record Outputs : Type 0 where
 abbrev pub Spell : List SpanEvent → List Placed → Type 0
 Spell events entries = map spelling events ≡ map (λ (i : Placed). i.words) entries
 
--- the documents that these results make, in order: the trace
+-- the trace of these spans, by name, with how many were accepted and the names of the texts
+abbrev pub trace_of : List ℕ → List (List ℕ) → ℕ → List SpanEvent → List ℕ × List ℕ
+trace_of name names accepted events = (name, trace_text names accepted events)
+
+-- the text of the folded times of these spans, by the trace's name
+abbrev pub folded_of : List ℕ → List SpanEvent → List ℕ × List ℕ
+folded_of name events = (name ++ codes ".folded", folded_text (folded events))
+
+-- the documents of a run, in order: the trace, and where they are asked for the folded times
+abbrev pub documents_by : Bool → List ℕ × List ℕ → List ℕ × List ℕ → Files
+documents_by false trace folded_times = trace ∷ []
+documents_by true trace folded_times = trace ∷ folded_times ∷ []
+
+-- the documents that these results make
 abbrev pub asks_of : Results → Files
 asks_of results =
-    let names = bytes_of results.names.now in
-    (results.trace.now, trace_text names results.accepted results.events.now) ∷ []
+    let name = results.trace.now in let events = results.events.now in
+    documents_by results.fold
+    (trace_of name (bytes_of results.names.now) results.accepted events) (folded_of name events)
 
--- the documents that are asked of a closed queue, where the texts have these names: the trace of
--- what it lists, with how many spans were accepted
+-- the documents that are asked of a closed queue, where the texts have these names: those of what
+-- it lists
 abbrev pub documents_of : Asked → List (List ℕ) → ClosedQueue → Files
 documents_of asked names queue =
-    (asked.trace, trace_text names (length queue.accepted) (events_of (listed queue))) ∷ []
+    let events = events_of (listed queue) in
+    documents_by asked.fold
+    (trace_of asked.trace names (length queue.accepted) events) (folded_of asked.trace events)
 
 -- the store has its earlier documents, and these behind them
 abbrev pub GainsDocuments : Option Files → Option Files → Files → Type 0
@@ -91,7 +108,7 @@ abbrev pub OutFaults : Ending → ℕ → ℕ → Type 0
 OutFaults CountsUnwritten before now = Rose before now
 OutFaults other before now = now ≡ before
 
--- the trace store's count of faults rises where the trace can't be written, and nowhere else
+-- the trace store's count of faults rises where a document can't be written, and nowhere else
 abbrev pub StoreFaults : Ending → ℕ → ℕ → Type 0
 StoreFaults TraceUnwritten before now = Rose before now
 StoreFaults other before now = now ≡ before

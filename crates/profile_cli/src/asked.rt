@@ -104,6 +104,7 @@ pub fn carry_out<
         names: command.names.as_slice(),
         events: events.as_slice(),
         accepted,
+        fold: options.fold,
     };
     let ending = write_results(alloc, &results, out, trace);
     Ended { ending, closed }

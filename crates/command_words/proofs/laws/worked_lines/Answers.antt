@@ -13,14 +13,14 @@ returns-clause-files c = files
 
 options : AreRight worked_options
 unfolding clap_on_literals read_line
-options = (refl, (refl, (refl, (refl, (refl, (refl, (refl, (refl, (refl, (refl, (refl, (refl, tt))))))))))))
+options = (refl, (refl, (refl, (refl, (refl, (refl, (refl, (refl, (refl, (refl, (refl, (refl, (refl, (refl, tt))))))))))))))
 
 pub returns-clause-options : goal.returns-clause-options
 returns-clause-options c = options
 
 words : AreRight worked_words
 unfolding clap_on_literals read_line
-words = (refl, (refl, (refl, (refl, (refl, (refl, (refl, (refl, (refl, (refl, (refl, (refl, (refl, tt)))))))))))))
+words = (refl, (refl, (refl, (refl, (refl, (refl, (refl, (refl, (refl, (refl, (refl, (refl, (refl, (refl, (refl, (refl, tt))))))))))))))))
 
 pub returns-clause-words : goal.returns-clause-words
 returns-clause-words c = words

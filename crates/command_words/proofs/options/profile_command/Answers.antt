@@ -11,4 +11,5 @@ returns c =
     let piece = one_more c.in_ok-arg-5.ensures c.option-5.ensures.local size c.option-5.ensures.rule in
     let trace = one_more c.in_ok-arg-6.ensures c.option-6.ensures.local piece c.option-6.ensures.rule in
     let generate = one_more c.in_ok-arg-7.ensures c.option-7.ensures.local trace c.option-7.ensures.rule in
-    IfOk-weaker c.arg-8.result _ _ (λ command adds. one_more adds c.file.ensures.local generate c.file.ensures.rule) c.arg-8.ensures
+    let fold = one_more c.in_ok-arg-8.ensures c.flag.ensures.local generate c.flag.ensures.rule in
+    IfOk-weaker c.arg-9.result _ _ (λ command adds. one_more adds c.file.ensures.local fold c.file.ensures.rule) c.arg-9.ensures

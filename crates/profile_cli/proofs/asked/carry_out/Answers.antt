@@ -1,11 +1,11 @@
-use Rattle.std.proofs.Common.{◌≡◌, ℕ, List, [], ◌∷◌, ap, ◌∙◌, sym, subst, length}
+use Rattle.std.proofs.Common.{◌≡◌, ℕ, List, ap, ◌∙◌, sym, subst, length}
 use Rattle.std.specs.Prelude.{Ok, Option, string_bytes}
 use Rattle.std.specs.List.{All}
 use Rattle.std.proofs.lemmas.List.{length-map}
 use Rattle.span_words.specs.declared.span.SpanEvent.{SpanEvent}
 use Rattle.flow_io.specs.Clock.{Ticks}
 use Rattle.flow_io.specs.Flow.{Files, documents}
-use Rattle.trace_json.specs.Trace.{HasFile, trace_text}
+use Rattle.trace_json.specs.Trace.{HasFile}
 use Rattle.word_text.specs.Counts.{Numbers, counts_of_all, counts_text_of}
 use Rattle.profile_cli.specs.Run.{Leaves}
 use Rattle.profile_cli.specs.Queue.{ClosedQueue, IsQueueOf}
@@ -13,7 +13,7 @@ use Rattle.command_words.specs.Texts.{bytes_of}
 use Rattle.command_words.specs.Usage.{asked_of}
 use Rattle.std.proofs.lemmas.Slice.Zip.{AllZip-long}
 use Rattle.profile_cli.specs.Input.{IsTextOf, name_of, names_of, origins_of}
-use Rattle.profile_cli.specs.Written.{Outputs, Writes, documents_of}
+use Rattle.profile_cli.specs.Written.{Outputs, Writes, documents_by, documents_of, folded_of, trace_of}
 use Rattle.profile_cli.proofs.Left.{left_before, left_behind}
 use Rattle.profile_cli.proofs.asked.carry_out.Goals as goal
 
@@ -34,13 +34,14 @@ returns-clause-leaves g c =
     let lists = ran.queue.2 in
     let before : Outputs = record { out = g.O.Sink.told c.args.out.now; out_faults = g.O.Sink.faults c.args.out.now; documents = documents (g.T.Sink.told c.args.trace.now) (g.T.Sink.beside c.args.trace.now); store_faults = g.T.Sink.faults c.args.trace.now } in
     let after : Outputs = record { out = g.O.Sink.told c.write_results-ending.new.out; out_faults = g.O.Sink.faults c.write_results-ending.new.out; documents = documents (g.T.Sink.told c.write_results-ending.new.trace) (g.T.Sink.beside c.write_results-ending.new.trace); store_faults = g.T.Sink.faults c.write_results-ending.new.trace } in
-    let asks : Files = (c.as_str.result.now, trace_text (bytes_of c.as_slice.result.now) c.in-Ok-ran.ran.accepted c.as_slice-2.result.now) ∷ [] in
+    let fold = c.args.command.now.options.fold in
+    let asks : Files = documents_by fold (trace_of c.as_str.result.now (bytes_of c.as_slice.result.now) c.in-Ok-ran.ran.accepted c.as_slice-2.result.now) (folded_of c.as_str.result.now c.as_slice-2.result.now) in
     let counted = ran.counts ∙ ap counts_of_all whole in
     let events = c.as_slice-2.ensures.value ∙ lists.spans in
     let named : bytes_of c.as_slice.result.now ≡ names_of asked = ap bytes_of c.as_slice.ensures.value ∙ c.requires.names in
     let called = c.as_str.ensures.value in
     let listed : asks ≡ documents_of asked (names_of asked) queue =
-    λ i. (called i, trace_text (named i) (lists.number i) (events i)) ∷ [] in
+    λ i. documents_by fold (trace_of (called i) (named i) (lists.number i) (events i)) (folded_of (called i) (events i)) in
     let by_texts = subst (λ (n : Numbers). Writes (counts_text_of n) asks before after c.write_results-ending.result) counted wrote.writes in
     subst (λ (q : Option ClosedQueue). Leaves (Ok asked) (g.F.Source.files c.args.files.now) (record { queue = q; clock = clock; faults_before = g.F.Source.faults c.args.files.now; faults_after = g.F.Source.faults c.read_input.new.files; before = before; after = after }) c.write_results-ending.result) (sym ran.queue.3)
     (left_behind asked (g.F.Source.files c.args.files.now) clock texts (g.F.Source.faults c.args.files.now) (g.F.Source.faults c.read_input.new.files) before after c.write_results-ending.result queue c.in-Ok.ensures.quiet c.in-Ok.ensures.read

@@ -1,4 +1,4 @@
-use Rattle.std.proofs.Common.{◌≡◌, List, [], true, map, length, ◌<◌, ◌^◌, refl, sym, subst, ap, ◌∙◌, arith}
+use Rattle.std.proofs.Common.{◌≡◌, List, [], true, map, length, ◌<◌, ◌^◌, sym, subst, ap, ◌∙◌, arith}
 use Rattle.std.specs.Prelude.{flat_map, IsPermutation}
 use Rattle.std.specs.List.{All}
 use Rattle.cursor_word.specs.Shape.{IsWithinLimits}
