@@ -1,11 +1,12 @@
 -- What a closed queue lists, from what its seats did.
-use Rattle.std.proofs.Common.{◌≡◌, ℕ, ◌+◌, ◌-◌, ◌*◌, ◌≤◌, Bool, true, false, cond, List, [], ◌∷◌, ◌++◌, length, map, refl, ap, ◌∙◌, sym, subst, ⊎_elim, arith}
-use Rattle.std.specs.Prelude.{filter, flat_map, min, nat_eq, nat_le, IsPermutation}
+use Rattle.std.proofs.Common.{◌≡◌, ℕ, ◌+◌, ◌-◌, ◌*◌, ◌<◌, ◌≤◌, Bool, true, false, cond, List, [], ◌∷◌, ◌++◌, length, map, refl, ap, ◌∙◌, sym, subst, ⊎_elim, inl, inr, arith}
+use Rattle.std.specs.Prelude.{filter, flat_map, if◌then◌else◌, min, nat_eq, nat_le, IsPermutation, ◌⊎◌}
 use Rattle.std.specs.List.{All, AllByRecursion, IsDistinct, range_with_len}
 use Rattle.std.proofs.Math.Bool.{and-true}
 use Rattle.std.proofs.lemmas.Bool.{cases_lt}
 use Rattle.std.proofs.lemmas.Bool.Decides.{nat_tests}
-use Rattle.std.proofs.lemmas.List.{nil_from_length}
+use Rattle.std.proofs.lemmas.List.{length-map, nil_from_length}
+use Rattle.std.proofs.lemmas.List.FromFn.{length-range_with_len}
 use Rattle.std.proofs.lemmas.List.Elements.{All-filter, All-from_recursion, filter_agree, recursion_from_All}
 use Rattle.std.proofs.lemmas.List.Sorted.{All-permutation, IsPermutation-refl, IsPermutation-sym, IsPermutation-trans, length_permutation}
 use Rattle.cursor_word.specs.Shape.{Grid, IsWithinLimits}
@@ -13,7 +14,7 @@ use Rattle.cursor_word.specs.Cursor.{low}
 use Rattle.cursor_word.proofs.Places.{low_keeps}
 use Rattle.rail.specs.declared.entry.Placed.{Placed}
 use Rattle.rail.specs.Items.{IsRising, places}
-use Rattle.rail.specs.Outcome.{DropOutcome, IsAccepted, RetryOutcome, is_left}
+use Rattle.rail.specs.Outcome.{DropOutcome, IsAccepted, RetryOutcome, is_left, numbers_below}
 use Rattle.rail.proofs.Rising.{distinct_by_permutation, rising_accepted, rising_filter, same_by_permutation}
 use Rattle.rail.proofs.Whole.{taken_and_left}
 use Rattle.span_words.specs.declared.span.SpanEvent.{SpanEvent}
@@ -26,7 +27,7 @@ use Rattle.word_workers.specs.Trace.{IsSpanOfSome, NamesText}
 use Rattle.command_words.specs.declared.options.Options.{Options}
 use Rattle.command_words.specs.Usage as command
 use Rattle.command_words.specs.Usage.{asked_of}
-use Rattle.profile_cli.specs.Queue.{IsOutcome, listed_by, mode_by, shape_for}
+use Rattle.profile_cli.specs.Queue.{IsOutcome, listed_by, mode_by, seats_for, shape_for}
 use Rattle.profile_cli.specs.Written.{Spell}
 
 -- the items from a place on, of those that stand at all places below some number
@@ -138,15 +139,29 @@ spelled (e ∷ es) (i ∷ is) s =
     let rest = spelled es is t in
     λ k. first k ∷ rest k
 
+seats_within : (most workers : ℕ) (few : Bool) → 1 ≤ workers → workers ≤ 255 → (1 ≤ (if few then 1 else workers + 1)) × ((if few then 1 else workers + 1) ≤ 1024)
+seats_within most workers true some most_workers = (omega arith, omega arith)
+seats_within most workers false some most_workers = (omega arith, omega arith)
+
+seats_one_or_all : (workers n : ℕ) (few : Bool) → n ≡ (if few then 1 else workers + 1) → (n ≡ 1) ⊎ (n ≡ workers + 1)
+seats_one_or_all workers n true e = inl e
+seats_one_or_all workers n false e = inr e
+
+-- there is one seat, or one for each worker and one more
+pub seats_asked : {S : Type 0} (number_of : S → ℕ) (seats : List S) (most workers n : ℕ) → map number_of seats ≡ numbers_below n → n ≡ seats_for most workers → (length seats ≡ 1) ⊎ (length seats ≡ workers + 1)
+seats_asked number_of seats most workers n e is =
+    let len : length seats ≡ n = sym (length-map seats number_of) ∙ ap (λ (t : List ℕ). length t) e ∙ length-range_with_len 0 n in
+    seats_one_or_all workers (length seats) (nat_le most 1) (len ∙ is)
+
 -- the shape that a run asks for is one
-pub shape_within : (options : Options) → command.IsWithinLimits options → IsWithinLimits (shape_for (asked_of options))
-shape_within options limits = record {
+pub shape_within : (options : Options) (most : ℕ) → command.IsWithinLimits options → IsWithinLimits (shape_for (asked_of options) most)
+shape_within options most limits = let seats = seats_within most options.workers (nat_le most 1) limits.some_workers limits.most_workers in record {
   blocks_from = limits.some_blocks;
   blocks_to = limits.few_blocks;
   size_from = limits.some_size;
   size_to = limits.small_size;
   width_from = omega arith;
   width_to = omega arith;
-  seats_from = omega arith;
-  seats_to = omega arith;
+  seats_from = seats.0;
+  seats_to = seats.1;
 }

@@ -1,5 +1,5 @@
 -- The queue that a run closed.
-use Rattle.std.specs.Prelude.{◌≡◌, ℕ, ◌-◌, ◌*◌, ◌≤◌, Bool, if◌then◌else◌, List, [], length, min, Option, Some, None}
+use Rattle.std.specs.Prelude.{◌≡◌, ℕ, ◌+◌, ◌-◌, ◌*◌, ◌≤◌, Bool, if◌then◌else◌, List, [], length, min, nat_le, Option, Some, None}
 use Rattle.cursor_word.specs.Shape.{Grid}
 use Rattle.flow_io.specs.Clock.{Ticks}
 use Rattle.rail.specs.declared.entry.Placed.{Placed}
@@ -16,9 +16,10 @@ use Rattle.command_words.specs.Usage.{Asked}
 use Rattle.command_words.specs.declared.options.Mode.{Mode}
 use Rattle.command_words.specs.declared.options.Mode.TheVariants.{DropOld, RetryNew}
 
--- its mode and shape, and its lists in order of place
+-- its mode, how many seats a queue of its kind may have, its shape, and its lists in order of place
 pub record ClosedQueue : Type 0 where
   pub mode : Mode
+  pub most_seats : ℕ
   pub shape : Grid
   pub accepted : List Placed
   pub taken : List Placed
@@ -26,19 +27,26 @@ pub record ClosedQueue : Type 0 where
 
 -- what is seen of a closed queue of some kind
 pub record Seen (D : Type 0) : Type 0 where
+  pub most_seats : ℕ
   pub shape : D → Grid
   pub accepted : D → List Placed
   pub taken : D → List Placed
   pub left : D → List Placed
 
-abbrev pub seen : {D : Type 0} → (D → Grid) → (D → List Placed) → (D → List Placed)
+abbrev pub seen : {D : Type 0} → ℕ → (D → Grid) → (D → List Placed) → (D → List Placed)
     → (D → List Placed) → Seen D
-seen shape accepted taken left =
-    record { shape = shape; accepted = accepted; taken = taken; left = left }
+seen most_seats shape accepted taken left = record {
+  most_seats = most_seats;
+  shape = shape;
+  accepted = accepted;
+  taken = taken;
+  left = left;
+}
 
 abbrev pub closed_queue : {D : Type 0} → Mode → Seen D → D → ClosedQueue
 closed_queue mode sees done = record {
   mode = mode;
+  most_seats = sees.most_seats;
   shape = sees.shape done;
   accepted = sees.accepted done;
   taken = sees.taken done;
@@ -57,9 +65,18 @@ queue_of retry drop (closed.DropOld done) = Some (closed_queue DropOld drop done
 abbrev pub mode_by : Bool → Mode
 mode_by drops = if drops then DropOld else RetryNew
 
--- the shape that a run asks for: its workers run one after another, through one seat
-abbrev pub shape_for : Asked → Grid
-shape_for asked = record { blocks = asked.blocks; size = asked.size; width = SPAN_WORDS; seats = 1 }
+-- a seat for each worker and one for the collector, where a queue may have more than one
+abbrev pub seats_for : ℕ → ℕ → ℕ
+seats_for most_seats workers = if nat_le most_seats 1 then 1 else workers + 1
+
+-- the shape that a run asks for, of a queue that may have so many seats
+abbrev pub shape_for : Asked → ℕ → Grid
+shape_for asked most_seats = record {
+  blocks = asked.blocks;
+  size = asked.size;
+  width = SPAN_WORDS;
+  seats = seats_for most_seats asked.workers;
+}
 
 -- how what was taken and what was left are parts of what was accepted
 abbrev pub IsOutcome : Mode → Grid → List Placed → List Placed → List Placed → Type 0
@@ -80,7 +97,7 @@ listed queue = listed_by queue.mode queue.accepted queue.left
 pub record IsQueueOf (asked : Asked) (texts : List (List ℕ)) (clock : ℕ → Option Ticks)
     (queue : ClosedQueue) : Type 0 where
   pub mode : queue.mode ≡ asked.mode
-  pub shape : queue.shape ≡ shape_for asked
+  pub shape : queue.shape ≡ shape_for asked queue.most_seats
   pub order : places queue.accepted ≡ numbers_below (length queue.accepted)
   pub outcome : IsOutcome queue.mode queue.shape queue.accepted queue.taken queue.left
   -- never fewer are listed than all blocks but one hold

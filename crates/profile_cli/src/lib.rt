@@ -3,6 +3,7 @@
 #![tactic(auto)]
 
 mod asked;
+mod bbq_rails;
 mod command;
 mod ending;
 mod input;
@@ -15,6 +16,7 @@ mod solo_rails;
 mod texts;
 mod writing;
 
+pub use bbq_rails::BbqRails;
 pub use profiling::profile;
 pub use rails::{Closed, Rails, Report};
 pub use solo_rails::SoloRails;

@@ -49,9 +49,10 @@ pub fn profile<
         )
         (record {
           queue = queue_of
-              (seen R.Retry.done_shape R.Retry.done_accepted R.Retry.done_taken R.Retry.done_left)
-              (seen R.DropOld.done_shape R.DropOld.done_accepted R.DropOld.done_taken
-              R.DropOld.done_left) result.closed;
+              (seen R.Retry.MOST_SEATS R.Retry.done_shape R.Retry.done_accepted
+              R.Retry.done_taken R.Retry.done_left)
+              (seen R.DropOld.MOST_SEATS R.DropOld.done_shape R.DropOld.done_accepted
+              R.DropOld.done_taken R.DropOld.done_left) result.closed;
           clock = C.ticks clock.now;
           faults_before = F.faults files.old;
           faults_after = F.faults files.new;

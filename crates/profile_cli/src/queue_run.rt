@@ -1,4 +1,4 @@
-ghost use Rattle.std.specs.Prelude.{◌≡◌, ◌≤◌, [], Some, length, map, sum_by, IfOk};
+ghost use Rattle.std.specs.Prelude.{◌≡◌, ◌<◌, ◌≤◌, ◌⊎◌, [], Some, length, map, sum_by, IfOk};
 ghost use Rattle.std.specs.List.{All};
 ghost use Rattle.rail.specs.Outcome.{numbers_below};
 ghost use Rattle.span_recorder.specs.Events.{events_of};
@@ -61,16 +61,15 @@ pub fn run_queue<X: Threads + Wait + Sync, C: Clock, G: Gate, R: Rails>(
         × IsQueueOf (asked_of options.now) texts.now (C.ticks clock.now) queue
         × HasListed queue ran.accepted ran.events.items
         × (queue_of
-        (seen R.Retry.done_shape R.Retry.done_accepted R.Retry.done_taken R.Retry.done_left)
-        (seen R.DropOld.done_shape R.DropOld.done_accepted R.DropOld.done_taken
-        R.DropOld.done_left) ran.closed ≡ Some queue)) }
+        (seen R.Retry.MOST_SEATS R.Retry.done_shape R.Retry.done_accepted R.Retry.done_taken
+        R.Retry.done_left)
+        (seen R.DropOld.MOST_SEATS R.DropOld.done_shape R.DropOld.done_accepted
+        R.DropOld.done_taken R.DropOld.done_left) ran.closed ≡ Some queue)) }
     ensures files { IfOk result (λ ran. All (HasFile (length texts.now)) ran.events.items) }
 {
-    let Ok(shape) = Shape::new(options.blocks, options.size, SPAN_WORDS as u64, 1) else {
-        unreachable!()
-    };
     match options.mode {
         Mode::RetryNew => {
+            let shape = shape_for::<R::Retry>(options);
             let (rail, seats) = rails.retry(alloc, shape)?;
             let through = run_through(rt, alloc, options, plan, texts, rail, seats, clock, gate)?;
             let Through {
@@ -86,6 +85,7 @@ pub fn run_queue<X: Threads + Wait + Sync, C: Clock, G: Gate, R: Rails>(
             })
         }
         Mode::DropOld => {
+            let shape = shape_for::<R::DropOld>(options);
             let (rail, seats) = rails.drop_old(alloc, shape)?;
             let through = run_through(rt, alloc, options, plan, texts, rail, seats, clock, gate)?;
             let Through {
@@ -101,6 +101,25 @@ pub fn run_queue<X: Threads + Wait + Sync, C: Clock, G: Gate, R: Rails>(
             })
         }
     }
+}
+
+// The shape of a queue of some kind: a seat for each worker and one more, where it may have more
+// than one.
+fn shape_for<Q: Rail>(options: &Options) -> Shape
+    requires limits { IsWithinLimits options.now }
+    requires kind { (Q.MOST_SEATS ≡ 1) ⊎ (MOST_WORKERS < Q.MOST_SEATS) }
+    ensures shape { result ≡ shape_for (asked_of options.now) Q.MOST_SEATS }
+    ensures fits { result.seats ≤ Q.MOST_SEATS }
+{
+    let seats = if Q::MOST_SEATS > 1 {
+        options.workers + 1
+    } else {
+        1
+    };
+    let Ok(shape) = Shape::new(options.blocks, options.size, SPAN_WORDS as u64, seats) else {
+        unreachable!()
+    };
+    shape
 }
 
 /// Runs all workers through a queue, closes it, and reads the spans that it lists: all that it had
@@ -120,8 +139,7 @@ fn run_through<X: Threads + Wait + Sync, Q: Rail, C: Clock, G: Gate>(
     requires plan { plan.now ≡ plan_of texts.now options.now.piece }
     requires size { sum_by length texts.now ≤ input_limit }
     requires mode { options.now.mode ≡ mode_by Q.DROPS }
-    requires shape { Q.shape_of rail ≡ shape_for (asked_of options.now) }
-    requires one { length seats.items ≡ 1 }
+    requires shape { Q.shape_of rail ≡ shape_for (asked_of options.now) Q.MOST_SEATS }
     requires numbers { map Q.number_of seats.items ≡ numbers_below (Q.shape_of rail).seats }
     requires puts { All (Q.PutsInto rail) seats.items }
     requires takes { All (Q.TakesFrom rail) seats.items }
@@ -130,7 +148,7 @@ fn run_through<X: Threads + Wait + Sync, Q: Rail, C: Clock, G: Gate>(
     ensures queue { IfOk result (λ through.
         IsQueueOf (asked_of options.now) texts.now (C.ticks clock.now)
         (closed_queue (mode_by Q.DROPS)
-        (seen Q.done_shape Q.done_accepted Q.done_taken Q.done_left) through.done)) }
+        (seen Q.MOST_SEATS Q.done_shape Q.done_accepted Q.done_taken Q.done_left) through.done)) }
     ensures events { IfOk result (λ through. through.events.items
         ≡ events_of (listed_by (mode_by Q.DROPS)
         (Q.done_accepted through.done) (Q.done_left through.done))) }

@@ -1,7 +1,7 @@
 //! Noting a span in any queue.
 #![tactic(auto)]
 
-ghost use Rattle.std.specs.Prelude.{◌≡◌, ◌+◌, ◌<◌, ◌≤◌, true, length, Some, IfOk, OnOk, OnErr, IsOk};
+ghost use Rattle.std.specs.Prelude.{◌≡◌, ◌+◌, ◌<◌, ◌≤◌, true, false, length, Some, IfOk, OnOk, OnErr, IsOk};
 ghost use Rattle.cursor_word.specs.Cursor.{most_puts};
 ghost use Rattle.rail.specs.Rail.{Puts};
 ghost use Rattle.rail.specs.declared.answer.Answer.{Answer};
@@ -18,7 +18,7 @@ use std::sync::Wait;
 /// entry into the batch; then it tries again.
 pub fn note_span<R: Rail>(
     rt: &impl Wait,
-    _alloc: Global,
+    alloc: Global,
     rail: &R,
     seat: &mut R::Seat,
     batch: &mut Batch,
@@ -43,7 +43,7 @@ pub fn note_span<R: Rail>(
     let words = encode(event);
     let backoff = Backoff::new();
     for _ in rt.forever() {
-        match put_or_take(rail, seat, batch, &words)? {
+        match put_or_take(alloc, rail, seat, batch, &words)? {
             Put::Ok(_) => break,
             Put::Busy(_) => backoff.snooze(),
             Put::Full {
@@ -57,6 +57,7 @@ pub fn note_span<R: Rail>(
 
 // Puts once, and where the queue is full takes once, into the batch. The answer is that of the put.
 fn put_or_take<R: Rail>(
+    alloc: Global,
     rail: &R,
     seat: &mut R::Seat,
     batch: &mut Batch,
@@ -85,14 +86,20 @@ fn put_or_take<R: Rail>(
         consumed: _,
     } = answer
     {
-        let _taken = collect_one(rail, seat, batch)?;
+        let _taken = collect_one(alloc, rail, seat, batch)?;
     }
     Ok(answer)
 }
 
-// Takes once, and puts what was taken into the batch. The room is made first, so no entry is lost
-// for want of memory.
-fn collect_one<R: Rail>(rail: &R, seat: &mut R::Seat, batch: &mut Batch) -> Result<Take, AllocError>
+/// Takes once, and puts what was taken into the batch. The answer is that of the take. The room is
+/// made first, so no entry is lost for want of memory.
+pub fn collect_one<R: Rail>(
+    _alloc: Global,
+    rail: &R,
+    seat: &mut R::Seat,
+    batch: &mut Batch,
+) -> Result<Take, AllocError>
+    requires keeps { R.DROPS ≡ false }
     requires takes { R.TakesFrom rail.now seat.old }
     requires width { (R.shape_of rail.now).width ≡ SPAN_WORDS }
     ensures puts { (q : R) → R.PutsInto q seat.old → R.PutsInto q seat.new }

@@ -1,6 +1,6 @@
 -- Numbers that are added to numbers, entry by entry.
 use Rattle.std.proofs.Common.{◌≡◌, ℕ, ◌+◌, ◌<◌, Bool, true, false, cond, Some, None, Option, List, [], ◌∷◌, ◌++◌, sym, refl, ap, ◌∙◌, subst, inl, inr, unwrap_or, arith}
-use Rattle.std.specs.Prelude.{sum, count_by, ◌⊎◌, IsPermutation}
+use Rattle.std.specs.Prelude.{sum, sum_by, count_by, flat_map, ◌⊎◌, IsPermutation}
 use Rattle.std.specs.declared.cmp.Ordering.{Ordering}
 use Rattle.std.specs.Str.{bytes_eq}
 use Rattle.std.specs.Ordering.{nat_cmp, eq_by_cmp}
@@ -188,10 +188,25 @@ merged-counted ws vs =
     (positive-merged (counted ws) (counted vs) (positive-add_all empty ws positive-empty) (positive-add_all empty vs positive-empty)) (positive-add_all empty (ws ++ vs) positive-empty)
     (λ q. omega (arith, count_in-merged (counted ws) (counted vs) q, count_in-counted ws q, count_in-counted vs q, count_in-counted (ws ++ vs) q, sum_by-append (λ w. cond (bytes_eq q w) 1 0) ws vs))
 
-pub counted-permutation : (ws vs : List (List ℕ)) → IsPermutation ws vs → add_all empty ws ≡ add_all empty vs
-counted-permutation ws vs p =
+-- each word stands as often in both
+counted-alike : (ws vs : List (List ℕ)) → ((q : List ℕ) → count_by (bytes_eq q) ws ≡ count_by (bytes_eq q) vs) → add_all empty ws ≡ add_all empty vs
+counted-alike ws vs same =
     same_counts (counted ws) (counted vs) (positive-add_all empty ws positive-empty) (positive-add_all empty vs positive-empty)
-    (λ q. count_in-counted ws q ∙ sym (sum_by-IsPermutation (λ w. cond (bytes_eq q w) 1 0) ws vs p) ∙ sym (count_in-counted vs q))
+    (λ q. count_in-counted ws q ∙ same q ∙ sym (count_in-counted vs q))
+
+pub counted-permutation : (ws vs : List (List ℕ)) → IsPermutation ws vs → add_all empty ws ≡ add_all empty vs
+counted-permutation ws vs p = counted-alike ws vs (λ q. sym (sum_by-IsPermutation (λ w. cond (bytes_eq q w) 1 0) ws vs p))
+
+module _ {X : Type 0} (f : X → List (List ℕ)) where
+  count_by-parts : (p : List ℕ → Bool) (xs : List X) → count_by p (flat_map f xs) ≡ sum_by (λ x. count_by p (f x)) xs
+  count_by-parts p [] = refl
+  count_by-parts p (x ∷ xs) = omega (arith, sum_by-append (λ w. cond (p w) 1 0) (f x) (flat_map f xs), count_by-parts p xs, sum_by-cons (λ y. count_by p (f y)) x xs)
+
+  -- parts that are counted in another order
+  pub counted-parts : (xs ys : List X) → IsPermutation xs ys → add_all empty (flat_map f xs) ≡ add_all empty (flat_map f ys)
+  counted-parts xs ys p =
+      counted-alike (flat_map f xs) (flat_map f ys)
+      (λ q. count_by-parts (bytes_eq q) xs ∙ sym (sum_by-IsPermutation (λ x. count_by (bytes_eq q) (f x)) xs ys p) ∙ sym (count_by-parts (bytes_eq q) ys))
 
 -- ---- the loop over a table
 pub add_numbers-push : (m : Numbers) (es : Entries) (e : List ℕ × ℕ) → add_numbers m (es ++ e ∷ []) ≡ add_number (add_numbers m es) e.0 e.1

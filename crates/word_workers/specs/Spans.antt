@@ -1,11 +1,13 @@
 -- What a worker counts and notes, by the numbers of its pieces.
 use Rattle.std.specs.Prelude.{◌≡◌, ℕ, ◌+◌, ◌*◌, ◌<◌, ◌≤◌, List, [], ◌∷◌, ◌++◌, length, map, take, flat_map, sum_by, slice_index, slice_index_or, Option, IfSome}
 use Rattle.std.specs.List.{All, enumerate_from}
+use Rattle.std.specs.FinMap as map_of
 use Rattle.flow_io.specs.Clock.{Ticks, last_reading, reading_at}
 use Rattle.span_words.specs.declared.span.SpanKind.TheVariants.{Worker, Piece as PieceKind}
 use Rattle.span_words.specs.declared.span.SpanEvent.{SpanEvent}
 use Rattle.span_words.specs.Span.{duration}
 use Rattle.word_text.specs.declared.plan.Piece.{Piece}
+use Rattle.word_text.specs.Counts.{Numbers, add_all}
 use Rattle.word_text.specs.Words.{words_of}
 use Rattle.word_text.specs.Pieces.{LiesIn, plan_bytes}
 
@@ -24,6 +26,10 @@ words_at plan texts n = words_of (plan_bytes texts (piece_at plan n))
 -- the words of all pieces, in order
 abbrev pub plan_words : List Piece → List (List ℕ) → List (List ℕ)
 plan_words plan texts = flat_map (λ (p : Piece). words_of (plan_bytes texts p)) plan
+
+-- the counts of the pieces of these numbers
+abbrev pub counts_at : List Piece → List (List ℕ) → List ℕ → Numbers
+counts_at plan texts drawn = add_all map_of.empty (flat_map (words_at plan texts) drawn)
 
 -- how many words the pieces of these numbers have together
 abbrev pub word_total : List Piece → List (List ℕ) → List ℕ → ℕ

@@ -1,21 +1,29 @@
-ghost use Rattle.std.specs.Prelude.{◌≡◌, ℕ, ◌+◌, ◌<◌, ◌≤◌, ◌^◌, List, [], ◌++◌, true, length, map, flat_map, IfOk, IsPermutation};
+ghost use Rattle.std.specs.Prelude.{◌≡◌, ℕ, ◌+◌, ◌<◌, ◌≤◌, ◌⊎◌, ◌^◌, [], ◌∷◌, true, length, map, flat_map, IfOk, IsPermutation, slice_index_or};
 ghost use Rattle.std.specs.List.{All};
 ghost use Rattle.std.specs.FinMap as map_of;
-ghost use Rattle.word_text.specs.Counts.{add_all, total};
+ghost use Rattle.claim_table.specs.Claimed.{IsFresh};
+ghost use Rattle.cursor_word.specs.Cursor.{most_puts};
+ghost use Rattle.word_text.specs.Counts.{add_all};
+ghost use Rattle.word_workers.specs.Finished.{IsRun};
+ghost use Rattle.word_workers.specs.Parts.{EachOwn};
 ghost use Rattle.word_workers.specs.Spans.{AllLieIn, plan_words};
 ghost use Rattle.word_workers.specs.Trace.{NamesText, RunMakes};
 
+use crate::beside::run_beside;
 use crate::drawn::Drawn;
 use crate::gate::Gate;
-use crate::numbers::Numbers;
-use crate::worker::{WorkerDone, run_worker};
+use crate::merging::merge_all;
+use crate::parts::{Parts, Run};
+use crate::turns::run_in_turn;
+use claim_table::{Claim, ClaimSeat};
 use flow_io::Clock;
 use rail::{Batch, Rail};
 use span_words::{MOST_WORKERS, SPAN_WORDS};
 use std::alloc::{AllocError, Global};
 use std::sync::Wait;
+use std::thread;
 use std::thread::Threads;
-use word_text::{Counts, Plan, Text, merge};
+use word_text::{Counts, MOST_PIECES, Plan, Text};
 
 /// What all workers hand back.
 #[derive(Drop)]
@@ -26,8 +34,10 @@ pub struct Work<R: Rail> {
     pub seats: Vec<R::Seat>,
 }
 
-/// Counts all pieces of a plan, and notes the spans of all workers in the queue. The workers run one
-/// after another through the queue's one seat.
+/// Counts all pieces of a plan, and notes the spans of all workers in the queue. Through one seat the
+/// workers run one after another. With a seat for each and one more they run beside one another, each
+/// in a thread of its own where one can be made, and meanwhile the calling thread takes with the last
+/// seat from a queue that keeps all.
 pub fn run_all<X: Threads + Wait + Sync, R: Rail, C: Clock, G: Gate>(
     rt: &X,
     alloc: Global,
@@ -43,7 +53,7 @@ pub fn run_all<X: Threads + Wait + Sync, R: Rail, C: Clock, G: Gate>(
     requires width { (R.shape_of rail.now).width ≡ SPAN_WORDS }
     requires inside { AllLieIn texts.now plan.now }
     requires words { length (plan_words plan.now texts.now) < 2 ^ 63 }
-    requires one { length seats.items ≡ 1 }
+    requires seats { (length seats.items ≡ 1) ⊎ (length seats.items ≡ workers + 1) }
     requires puts { All (R.PutsInto rail.now) seats.items }
     requires takes { All (R.TakesFrom rail.now) seats.items }
     requires fresh { All (λ seat. (R.made seat ≡ []) × (R.taken seat ≡ [])) seats.items }
@@ -53,6 +63,10 @@ pub fn run_all<X: Threads + Wait + Sync, R: Rail, C: Clock, G: Gate>(
         work.drawn.items workers plan.now texts.now (C.ticks clock.now)) }
     ensures files { IfOk result (λ work. All (λ i. NamesText (length texts.now) i.words)
         (flat_map R.made work.seats.items)) }
+    ensures each { length seats.items ≡ workers + 1 → IfOk result (λ work. EachOwn R.made
+        plan.now texts.now (C.ticks clock.now) workers work.drawn.items work.seats.items) }
+    ensures last { length seats.items ≡ workers + 1 → IfOk result (λ work. (seat : R.Seat)
+        → R.made (slice_index_or work.seats.items workers seat) ≡ []) }
     ensures batches { IfOk result (λ work. IsPermutation
         (flat_map (λ b. b.items) work.batches.items) (flat_map R.taken work.seats.items)) }
     ensures drops { R.DROPS ≡ true
@@ -64,44 +78,28 @@ pub fn run_all<X: Threads + Wait + Sync, R: Rail, C: Clock, G: Gate>(
     ensures takes { IfOk result (λ work. (q : R)
         → All (R.TakesFrom q) seats.items → All (R.TakesFrom q) work.seats.items) }
 {
-    let _most = rail.shape().most_puts();
-    let mut seats = seats;
-    let Some(first) = seats.pop() else {
-        unreachable!()
-    };
-    let mut seat = first;
-    let mut counts = Counts::new(alloc);
-    let mut batches = Vec::new(alloc);
-    let mut drawn = Vec::new(alloc);
-    let mut numbers = Numbers {
-        next: 0,
-        end: plan.len() as u64,
-    };
-    for worker in 0..workers {
-        let hand = clock.hand(worker);
-        let WorkerDone {
-            counts: own,
-            batch,
-            drawn: mine,
-            seat: back,
-        } = run_worker(
-            rt,
-            alloc,
-            worker,
-            plan,
-            texts,
-            rail,
-            seat,
-            &mut numbers,
-            hand,
-            gate,
-        )?;
-        seat = back;
-        counts = joined(alloc, worker, counts, own)?;
-        batches.push(batch)?;
-        drawn.push(mine)?;
-    }
-    seats.push(seat)?;
+    let (claim, claim_seats) = Claim::make(alloc, plan.len() as u64, workers + 1)?;
+    let Run { parts, seats } = run_workers(
+        rt,
+        alloc,
+        plan,
+        texts,
+        workers,
+        rail,
+        seats,
+        &claim,
+        claim_seats,
+        clock,
+        gate,
+    )?;
+    let Parts {
+        counts,
+        batches,
+        drawn,
+        claim_seats,
+    } = parts;
+    claim.close(claim_seats);
+    let counts = merge_all(alloc, counts)?;
     Ok(Work {
         counts,
         batches,
@@ -110,17 +108,145 @@ pub fn run_all<X: Threads + Wait + Sync, R: Rail, C: Clock, G: Gate>(
     })
 }
 
-// The counts of the words of both. Those of the first worker are taken as they are.
-fn joined(alloc: Global, worker: u64, counts: Counts, own: Counts) -> Result<Counts, AllocError>
-    requires first { worker ≡ 0 → counts ≡ map_of.empty }
-    requires room { total counts + total own < 2 ^ 63 }
-    ensures { IfOk result (λ all. (xs ys : List (List ℕ)) → counts ≡ add_all map_of.empty xs
-        → own ≡ add_all map_of.empty ys → all ≡ add_all map_of.empty (xs ++ ys)) }
+// Runs all workers, one after another or beside one another.
+fn run_workers<X: Threads + Wait + Sync, R: Rail, C: Clock, G: Gate>(
+    rt: &X,
+    alloc: Global,
+    plan: &Plan,
+    texts: &[Text],
+    workers: u64,
+    rail: &R,
+    seats: Vec<R::Seat>,
+    claim: &Claim,
+    claim_seats: Vec<ClaimSeat>,
+    clock: &C,
+    gate: &G,
+) -> Result<Run<R::Seat>, AllocError>
+    requires workers { (1 ≤ workers) × (workers ≤ MOST_WORKERS) }
+    requires width { (R.shape_of rail.now).width ≡ SPAN_WORDS }
+    requires inside { AllLieIn texts.now plan.now }
+    requires words { length (plan_words plan.now texts.now) < 2 ^ 63 }
+    requires most { length plan.now ≤ MOST_PIECES }
+    requires seats { (length seats.items ≡ 1) ⊎ (length seats.items ≡ workers + 1) }
+    requires puts { All (R.PutsInto rail.now) seats.items }
+    requires takes { All (R.TakesFrom rail.now) seats.items }
+    requires unused { All (λ seat. (R.made seat ≡ []) × (R.taken seat ≡ [])) seats.items }
+    requires pieces { claim.now.shape.pieces ≡ length plan.now }
+    requires claims { length claim_seats.items ≡ workers + 1 }
+    requires fresh { All (IsFresh claim.now) claim_seats.items }
+    ensures run { IfOk result (IsRun R.made R.taken R.number_of R.PutsInto R.TakesFrom R.DROPS
+        plan.now texts.now (C.ticks clock.now) claim.now workers seats.items) }
+    ensures each { length seats.items ≡ workers + 1 → IfOk result (λ run. EachOwn R.made
+        plan.now texts.now (C.ticks clock.now) workers run.parts.drawn.items run.seats.items) }
+    ensures last { length seats.items ≡ workers + 1 → IfOk result (λ run. (seat : R.Seat)
+        → R.made (slice_index_or run.seats.items workers seat) ≡ []) }
 {
-    if worker == 0 {
-        return Ok(own);
+    if seats.len() > 1 {
+        return in_threads(
+            rt,
+            alloc,
+            plan,
+            texts,
+            rail,
+            seats,
+            claim,
+            claim_seats,
+            clock,
+            gate,
+        );
     }
-    let mut counts = counts;
-    merge(alloc, &mut counts, &own)?;
-    Ok(counts)
+    let mut seats = seats;
+    let Some(seat) = seats.pop() else {
+        unreachable!()
+    };
+    let run = run_in_turn(
+        rt,
+        alloc,
+        plan,
+        texts,
+        workers,
+        rail,
+        seat,
+        claim,
+        claim_seats,
+        clock,
+        gate,
+    )?;
+    Ok(run)
+}
+
+// Runs a worker with each seat but the last, beside one another, in a scope of threads.
+fn in_threads<X: Threads + Wait + Sync, R: Rail, C: Clock, G: Gate>(
+    rt: &X,
+    alloc: Global,
+    plan: &Plan,
+    texts: &[Text],
+    rail: &R,
+    seats: Vec<R::Seat>,
+    claim: &Claim,
+    claim_seats: Vec<ClaimSeat>,
+    clock: &C,
+    gate: &G,
+) -> Result<Run<R::Seat>, AllocError>
+    requires workers { (2 ≤ length seats.items) × (length seats.items ≤ MOST_WORKERS + 1) }
+    requires width { (R.shape_of rail.now).width ≡ SPAN_WORDS }
+    requires inside { AllLieIn texts.now plan.now }
+    requires words { length (plan_words plan.now texts.now) < 2 ^ 63 }
+    requires most { length plan.now ≤ MOST_PIECES }
+    requires puts { All (R.PutsInto rail.now) seats.items }
+    requires takes { All (R.TakesFrom rail.now) seats.items }
+    requires unused { All (λ seat. (R.made seat ≡ []) × (R.taken seat ≡ [])) seats.items }
+    requires pieces { claim.now.shape.pieces ≡ length plan.now }
+    requires claims { length claim_seats.items ≡ length seats.items }
+    requires fresh { All (IsFresh claim.now) claim_seats.items }
+    ensures run { (workers : ℕ) → length seats.items ≡ workers + 1
+        → IfOk result (IsRun R.made R.taken R.number_of R.PutsInto R.TakesFrom R.DROPS
+        plan.now texts.now (C.ticks clock.now) claim.now workers seats.items) }
+    ensures each { (workers : ℕ) → length seats.items ≡ workers + 1
+        → IfOk result (λ run. EachOwn R.made plan.now texts.now (C.ticks clock.now) workers
+        run.parts.drawn.items run.seats.items) }
+    ensures last { (workers : ℕ) → length seats.items ≡ workers + 1
+        → IfOk result (λ run. (seat : R.Seat)
+        → R.made (slice_index_or run.seats.items workers seat) ≡ []) }
+{
+    let _most = rail.shape().most_puts();
+    thread::scope(
+        thread::scope_env(),
+        rt,
+        |scope| -> Result<Run<R::Seat>, AllocError>
+            requires { (2 ≤ length seats.items) × (length seats.items ≤ MOST_WORKERS + 1)
+                × ((R.shape_of rail.now).width ≡ SPAN_WORDS)
+                × (length plan.now < most_puts (R.shape_of rail.now))
+                × AllLieIn texts.now plan.now × (length (plan_words plan.now texts.now) < 2 ^ 63)
+                × All (R.PutsInto rail.now) seats.items × All (R.TakesFrom rail.now) seats.items
+                × All (λ seat. (R.made seat ≡ []) × (R.taken seat ≡ [])) seats.items
+                × (claim.now.shape.pieces ≡ length plan.now)
+                × (length claim_seats.items ≡ length seats.items)
+                × All (IsFresh claim.now) claim_seats.items }
+            ensures run { (workers : ℕ) → length seats.items ≡ workers + 1
+                → IfOk result (IsRun R.made R.taken R.number_of R.PutsInto R.TakesFrom R.DROPS
+                plan.entry.now texts.entry.now (C.ticks clock.entry.now) claim.entry.now workers
+                seats.items) }
+            ensures each { (workers : ℕ) → length seats.items ≡ workers + 1
+                → IfOk result (λ run. EachOwn R.made plan.entry.now texts.entry.now
+                (C.ticks clock.entry.now) workers run.parts.drawn.items run.seats.items) }
+            ensures last { (workers : ℕ) → length seats.items ≡ workers + 1
+                → IfOk result (λ run. (seat : R.Seat)
+                → R.made (slice_index_or run.seats.items workers seat) ≡ []) }
+        {
+            run_beside(
+                scope,
+                rt,
+                alloc,
+                plan,
+                texts,
+                rail,
+                seats,
+                claim,
+                claim_seats,
+                clock,
+                gate,
+            )
+        },
+    )
 }

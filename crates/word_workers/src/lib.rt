@@ -2,11 +2,18 @@
 #![tactic(auto)]
 
 mod all;
+mod beside;
+mod child;
+mod collector;
 mod drawn;
+mod ended;
 mod gate;
-mod numbers;
+mod merging;
+mod parts;
+mod turns;
 mod worker;
 
 pub use all::{Work, run_all};
 pub use drawn::Drawn;
 pub use gate::{Gate, NoGate};
+pub use worker::{WorkerDone, run_worker};

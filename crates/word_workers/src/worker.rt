@@ -1,24 +1,25 @@
-ghost use Rattle.std.specs.Prelude.{◌≡◌, ◌+◌, ◌-◌, ◌<◌, ◌≤◌, ◌^◌, [], ◌∷◌, ◌++◌, true, length, flat_map, IfOk, OnOk};
-ghost use Rattle.std.specs.List.{All, range_with_len};
-ghost use Rattle.std.specs.FinMap as map_of;
+ghost use Rattle.std.specs.Prelude.{◌≡◌, ◌+◌, ◌<◌, ◌^◌, [], ◌∷◌, ◌++◌, true, false, length, IfOk, OnOk};
+ghost use Rattle.std.specs.List.{All};
+ghost use Rattle.claim_table.specs.Claimed.{IsFresh};
 ghost use Rattle.cursor_word.specs.Cursor.{most_puts};
+ghost use Rattle.rail.specs.Items.{IsRising};
 ghost use Rattle.span_recorder.specs.Gain.{GainAlike};
 ghost use Rattle.span_words.specs.Span.{duration};
 ghost use Rattle.word_text.specs.Counts.{add_all, total};
 ghost use Rattle.word_text.specs.Pieces.{LiesIn, plan_bytes};
-ghost use Rattle.word_workers.specs.Spans.{AllLieIn, piece_at, plan_words, words_at};
+ghost use Rattle.word_workers.specs.Spans.{AllLieIn, counts_at, piece_at, plan_words, words_at};
 ghost use Rattle.word_workers.specs.Worked.{NotesPiece, Worked};
 
 use crate::drawn::Drawn;
 use crate::gate::Gate;
-use crate::numbers::Numbers;
+use claim_table::{Claim, ClaimSeat};
 use flow_io::Hand;
 use rail::{Batch, Rail};
 use span_recorder::note_span;
 use span_words::{MOST_WORKERS, SPAN_WORDS, SpanEvent, SpanKind};
 use std::alloc::{AllocError, Global};
 use std::sync::Wait;
-use word_text::{Counts, MOST_PIECES, Piece, Plan, Text, count_piece};
+use word_text::{Counts, Piece, Plan, Text, count_piece};
 
 /// What a worker hands back.
 #[derive(Drop)]
@@ -29,7 +30,8 @@ pub struct WorkerDone<R: Rail> {
     pub seat: R::Seat,
 }
 
-/// Counts each piece that it draws and notes its span, and notes a span of its own at the end.
+/// Counts each piece that it draws and notes its span, and notes a span of its own at the end. Last,
+/// in every outcome, it is counted as ended.
 pub fn run_worker<R: Rail, H: Hand, G: Gate>(
     rt: &impl Wait,
     alloc: Global,
@@ -38,7 +40,8 @@ pub fn run_worker<R: Rail, H: Hand, G: Gate>(
     texts: &[Text],
     rail: &R,
     seat: R::Seat,
-    numbers: &mut Numbers,
+    claim: &Claim,
+    claim_seat: &mut ClaimSeat,
     hand: H,
     gate: &G,
 ) -> Result<WorkerDone<R>, AllocError>
@@ -49,14 +52,63 @@ pub fn run_worker<R: Rail, H: Hand, G: Gate>(
     requires room { length (R.made seat) + length plan.now < most_puts (R.shape_of rail.now) }
     requires inside { AllLieIn texts.now plan.now }
     requires words { length (plan_words plan.now texts.now) < 2 ^ 63 }
-    requires numbers { (numbers.old.next ≤ numbers.old.end)
-        × (numbers.old.end ≡ length plan.now) × (numbers.old.end ≤ MOST_PIECES) }
-    ensures numbers { OnOk result
-        (numbers.new ≡ record { next = numbers.old.end; end = numbers.old.end }) }
-    ensures drawn { IfOk result (λ done. done.drawn
-        ≡ range_with_len numbers.old.next (numbers.old.end - numbers.old.next)) }
+    requires fresh { IsFresh claim.now claim_seat.old }
+    requires pieces { claim.now.shape.pieces ≡ length plan.now }
+    ensures same { claim_seat.new.of ≡ claim_seat.old.of }
+    ensures ended { claim_seat.new.ended ≡ true }
+    ensures stopped { OnOk result (claim_seat.new.stopped ≡ true) }
+    ensures drawn { IfOk result (λ done. done.drawn ≡ claim_seat.new.drawn) }
+    ensures rising { IfOk result (λ done. IsRising done.drawn) }
+    ensures within { IfOk result (λ done. All (λ n. n < length plan.now) done.drawn) }
     ensures counts { IfOk result (λ done. done.counts
-        ≡ add_all map_of.empty (flat_map (words_at plan.now texts.now) done.drawn)) }
+        ≡ counts_at plan.now texts.now done.drawn) }
+    ensures spans { IfOk result (λ done. Worked plan.now texts.now
+        (H.ticks hand) worker done.drawn (R.made seat) (R.made done.seat)) }
+    ensures taken { IfOk result (λ done.
+        GainAlike (R.taken seat) (R.taken done.seat) [] done.batch.items) }
+    ensures drops { R.DROPS ≡ true → IfOk result (λ done. R.taken done.seat ≡ R.taken seat) }
+    ensures puts { IfOk result (λ done. (q : R) → R.PutsInto q seat → R.PutsInto q done.seat) }
+    ensures takes { IfOk result (λ done. (q : R) → R.TakesFrom q seat → R.TakesFrom q done.seat) }
+    ensures number { IfOk result (λ done. R.number_of done.seat ≡ R.number_of seat) }
+{
+    let done = work_off(
+        rt, alloc, worker, plan, texts, rail, seat, claim, claim_seat, hand, gate,
+    );
+    claim.end(claim_seat);
+    done
+}
+
+// What a worker does before it is counted as ended.
+fn work_off<R: Rail, H: Hand, G: Gate>(
+    rt: &impl Wait,
+    alloc: Global,
+    worker: u64,
+    plan: &Plan,
+    texts: &[Text],
+    rail: &R,
+    seat: R::Seat,
+    claim: &Claim,
+    claim_seat: &mut ClaimSeat,
+    hand: H,
+    gate: &G,
+) -> Result<WorkerDone<R>, AllocError>
+    requires worker { worker < MOST_WORKERS }
+    requires puts { R.PutsInto rail.now seat }
+    requires takes { R.TakesFrom rail.now seat }
+    requires width { (R.shape_of rail.now).width ≡ SPAN_WORDS }
+    requires room { length (R.made seat) + length plan.now < most_puts (R.shape_of rail.now) }
+    requires inside { AllLieIn texts.now plan.now }
+    requires words { length (plan_words plan.now texts.now) < 2 ^ 63 }
+    requires fresh { IsFresh claim.now claim_seat.old }
+    requires pieces { claim.now.shape.pieces ≡ length plan.now }
+    ensures same { claim_seat.new.of ≡ claim_seat.old.of }
+    ensures running { claim_seat.new.ended ≡ false }
+    ensures stopped { OnOk result (claim_seat.new.stopped ≡ true) }
+    ensures drawn { IfOk result (λ done. done.drawn ≡ claim_seat.new.drawn) }
+    ensures rising { IfOk result (λ done. IsRising done.drawn) }
+    ensures within { IfOk result (λ done. All (λ n. n < length plan.now) done.drawn) }
+    ensures counts { IfOk result (λ done. done.counts
+        ≡ counts_at plan.now texts.now done.drawn) }
     ensures spans { IfOk result (λ done. Worked plan.now texts.now
         (H.ticks hand) worker done.drawn (R.made seat) (R.made done.seat)) }
     ensures taken { IfOk result (λ done.
@@ -76,7 +128,7 @@ pub fn run_worker<R: Rail, H: Hand, G: Gate>(
     let mut words = 0;
     let first = hand.now();
     gate.arrive(worker);
-    while let Some(number) = numbers.draw() {
+    while let Some(number) = claim.claim(claim_seat) {
         words = count_noted(
             rt, alloc, worker, plan, texts, rail, number, words, &mut done, &mut hand,
         )?;

@@ -20,7 +20,7 @@ returns-in-Ok-clause-leaves g c =
     let before : Messages = record { told = m.told c.args.messages.now; faults = m.faults c.args.messages.now } in
     let after : Messages = record { told = m.told c.say_ending.new.messages; faults = m.faults c.say_ending.new.messages } in
     reported _ _ _ _ _ _ _ _ _ _ _ _ c.carry_out-ending.result.ending c.in-Ok.ensures.usage
-    (ap (queue_of (seen r.done_shape r.done_accepted r.done_taken r.done_left) (seen d.done_shape d.done_accepted d.done_taken d.done_left)) c.report.ensures.closed) c.report.ensures.status c.report.ensures.detail
+    (ap (queue_of (seen r.MOST_SEATS r.done_shape r.done_accepted r.done_taken r.done_left) (seen d.MOST_SEATS d.done_shape d.done_accepted d.done_taken d.done_left)) c.report.ensures.closed) c.report.ensures.status c.report.ensures.detail
     (subst (λ (names : List (List ℕ)). Says names c.carry_out-ending.result.ending before after) (ap bytes_of c.as_slice.ensures.value ∙ c.in-Ok.ensures.names) c.say_ending.ensures.says)
     c.carry_out-ending.ensures.leaves
 
@@ -39,6 +39,6 @@ returns-in-Err-clause-leaves g c =
     let before : Messages = record { told = m.told c.args.messages.now; faults = m.faults c.args.messages.now } in
     let after : Messages = record { told = m.told c.say_ending-in-Err.new.messages; faults = m.faults c.say_ending-in-Err.new.messages } in
     reported asked asked _ _ _ _ _ _ _ _ _ _ c.without_options-ending.result refl
-    (ap (queue_of (seen r.done_shape r.done_accepted r.done_taken r.done_left) (seen d.done_shape d.done_accepted d.done_taken d.done_left)) c.report-in-Err.ensures.closed) c.report-in-Err.ensures.status c.report-in-Err.ensures.detail
+    (ap (queue_of (seen r.MOST_SEATS r.done_shape r.done_accepted r.done_taken r.done_left) (seen d.MOST_SEATS d.done_shape d.done_accepted d.done_taken d.done_left)) c.report-in-Err.ensures.closed) c.report-in-Err.ensures.status c.report-in-Err.ensures.detail
     (subst (λ (e : Ending). Says (names_by asked) e before after) (sym same) (says_without error asked before after (subst (λ (e : Ending). Says [] e before after) same c.say_ending-in-Err.ensures.says)))
     (subst (λ (e : Ending). Leaves asked (g.F.Source.files c.args.files.now) run e) (sym same) (left_without error asked (g.F.Source.files c.args.files.now) clock faults outputs c.in-Err.ensures.usage))

@@ -1,7 +1,7 @@
 use Rattle.std.proofs.Common.{◌≡◌, List, [], true, map, length, ◌<◌, ◌^◌, sym, subst, ap, ◌∙◌, arith}
 use Rattle.std.specs.Prelude.{flat_map, IsPermutation}
 use Rattle.std.specs.List.{All}
-use Rattle.cursor_word.specs.Shape.{IsWithinLimits}
+use Rattle.cursor_word.specs.Shape.{Grid, IsWithinLimits}
 use Rattle.rail.specs.declared.entry.Placed.{Placed}
 use Rattle.span_recorder.specs.Events.{events_of}
 use Rattle.std.proofs.lemmas.List.Sorted.{IsPermutation-refl}
@@ -12,7 +12,7 @@ use Rattle.word_workers.specs.Trace.{IsSpanOfSome, NamesText, RunTrace}
 use Rattle.word_text.proofs.Cuts.{plan_inside}
 use Rattle.word_workers.proofs.Plans.{plan_words-le}
 use Rattle.word_workers.proofs.Traces.{trace_of_run}
-use Rattle.profile_cli.proofs.Listed.{all_listed, enough, files_there, gathered_apart, gathered_listed, none_taken, outcome, shape_within, spans_below, spelled}
+use Rattle.profile_cli.proofs.Listed.{all_listed, enough, files_there, gathered_apart, gathered_listed, none_taken, outcome, seats_asked, shape_within, spans_below, spelled}
 use Rattle.profile_cli.proofs.Planned.{counts_of_plan}
 use Rattle.profile_cli.proofs.queue_run.run_through.Goals as goal
 
@@ -24,6 +24,10 @@ pub run_all-requires-clause-words : goal.run_all-requires-clause-words
 run_all-requires-clause-words g c κs within =
     let few = plan_words-le c.args.texts.now c.args.options.now.piece c.requires.limits.some_piece in
     subst (λ (plan : List Piece). length (plan_words plan c.args.texts.now) < 2 ^ 63) (sym c.requires.plan) (omega (arith, few, c.requires.size))
+
+pub run_all-requires-clause-seats : goal.run_all-requires-clause-seats
+run_all-requires-clause-seats g c κs within =
+    seats_asked g.Q.Rail.number_of c.args.seats.items g.Q.Rail.MOST_SEATS c.args.options.now.workers _ c.requires.numbers (ap (λ (s : Grid). s.seats) c.requires.shape)
 
 pub close-requires-clause-all : goal.close-requires-clause-all
 close-requires-clause-all g c =
@@ -63,7 +67,7 @@ returns-clause-queue g c =
       shape = shape;
       order = done.accepted.no_gap;
       outcome = outcome _ _ _ _ _ _ _ _ done.accepted batches done.taken c.left.ensures g.Q.Rail.DROPS done.retry done.drop none;
-      enough = enough _ _ _ _ _ _ _ _ done.accepted batches done.taken c.left.ensures g.Q.Rail.DROPS done.retry done.drop none (subst IsWithinLimits (sym shape) (shape_within c.args.options.now c.requires.limits));
+      enough = enough _ _ _ _ _ _ _ _ done.accepted batches done.taken c.left.ensures g.Q.Rail.DROPS done.retry done.drop none (subst IsWithinLimits (sym shape) (shape_within c.args.options.now g.Q.Rail.MOST_SEATS c.requires.limits));
       run = subst (λ (plan : List Piece). RunTrace (g.Q.Rail.done_accepted c.in-Ok.done) c.args.options.now.workers plan c.args.texts.now (g.C.Clock.ticks c.args.clock.now)) c.requires.plan run;
     }
 

@@ -1,0 +1,65 @@
+//! The collector, which takes from the queue while the workers run.
+ghost use Rattle.std.specs.Prelude.{◌≡◌, [], ◌∷◌, ◌++◌, List, false, true, IfOk};
+ghost use Rattle.rail.specs.declared.entry.Placed.{Placed};
+ghost use Rattle.span_recorder.specs.Gain.{GainAlike};
+
+use claim_table::{Claim, ClaimSeat};
+use crossbeam_utils::Backoff;
+use rail::{Batch, Rail, Take};
+use span_recorder::collect_one;
+use span_words::SPAN_WORDS;
+use std::alloc::{AllocError, Global};
+use std::sync::Wait;
+
+/// What the collector took, and its seats.
+#[derive(Drop)]
+pub struct Collected<S> {
+    pub batch: Batch,
+    pub seat: S,
+    pub claim_seat: ClaimSeat,
+}
+
+/// Takes from a queue that keeps all, until so many workers have ended. From one that drops its
+/// oldest entries nothing is taken.
+pub fn collect<R: Rail>(
+    rt: &impl Wait,
+    alloc: Global,
+    rail: &R,
+    seat: R::Seat,
+    claim: &Claim,
+    claim_seat: ClaimSeat,
+    workers: u64,
+) -> Result<Collected<R::Seat>, AllocError>
+    requires takes { R.TakesFrom rail.now seat }
+    requires width { (R.shape_of rail.now).width ≡ SPAN_WORDS }
+    requires claim { claim_seat.of ≡ claim.now }
+    ensures taken { IfOk result (λ done.
+        GainAlike (R.taken seat) (R.taken done.seat) [] done.batch.items) }
+    ensures drops { R.DROPS ≡ true → IfOk result (λ done. R.taken done.seat ≡ R.taken seat) }
+    ensures made { IfOk result (λ done. R.made done.seat ≡ R.made seat) }
+    ensures puts { IfOk result (λ done. (q : R) → R.PutsInto q seat → R.PutsInto q done.seat) }
+    ensures takes { IfOk result (λ done. (q : R) → R.TakesFrom q seat → R.TakesFrom q done.seat) }
+    ensures number { IfOk result (λ done. R.number_of done.seat ≡ R.number_of seat) }
+    ensures claim { IfOk result (λ done. done.claim_seat.of ≡ claim.now) }
+    ensures drawn { IfOk result (λ done. done.claim_seat.drawn ≡ claim_seat.drawn) }
+{
+    let mut done = Collected {
+        batch: Batch::new(alloc),
+        seat,
+        claim_seat,
+    };
+    if R::DROPS {
+        return Ok(done);
+    }
+    let backoff = Backoff::new();
+    for _ in rt.forever() {
+        if claim.ended(&mut done.claim_seat) == workers {
+            break;
+        }
+        match collect_one(alloc, rail, &mut done.seat, &mut done.batch)? {
+            Take::Ok(_) => backoff.reset(),
+            _ => backoff.snooze(),
+        }
+    }
+    Ok(done)
+}
