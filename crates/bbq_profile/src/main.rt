@@ -4,7 +4,7 @@
 use flow_io::{
     ArgumentsError, FileSource, FileStore, RealClock, StderrSink, StdoutSink, read_arguments,
 };
-use profile_cli::{SoloRails, profile};
+use profile_cli::{BbqRails, profile};
 use std::process::ExitCode;
 use word_workers::NoGate;
 
@@ -31,7 +31,7 @@ fn main(rt: HostRuntime) -> ExitCode {
         &mut trace,
         &clock,
         &NoGate,
-        &SoloRails,
+        &BbqRails,
     );
     ExitCode::from(report.status)
 }
