@@ -1,6 +1,6 @@
 -- The entries of a table, sorted, are those of the map that it tells.
 use Rattle.std.proofs.Common.{◌≡◌, ℕ, ◌+◌, ◌<◌, Bool, true, false, Some, None, Option, List, [], ◌∷◌, length, get_or, map, sym, refl, ap, ◌∙◌, subst, arith, Vec, Bor}
-use Rattle.std.specs.Prelude.{T, ◌&&◌, IsPermutation, IsSorted}
+use Rattle.std.specs.Prelude.{T, ◌&&◌, cond, is_some, IsPermutation, IsSorted}
 use Rattle.std.specs.declared.cmp.Ordering.{Ordering}
 use Rattle.std.specs.declared.cmp.Ordering.TheVariants.{Less, Equal, Greater}
 use Rattle.std.specs.Ordering.{nat_cmp, eq_by_cmp, is_lt, is_eq, ordering_then, ordering_reverse}
@@ -9,7 +9,7 @@ use Rattle.std.specs.Cmp.Lexicographic.{slice_cmp, nat_list_cmp_total, texts_tie
 use Rattle.std.specs.List.{AllByRecursion, IsDistinct}
 use Rattle.std.specs.List.Sorted.{IsStrictlySortedBy}
 use Rattle.std.specs.Map.{lookup, keys_of}
-use Rattle.std.specs.FinMap.{is_sorted, entries, entries_sorted, get-entries, get-from_entries, from_entries}
+use Rattle.std.specs.FinMap.{contains_key, is_sorted, entries, entries_sorted, get, get-entries, get-from_entries, from_entries, len, len-empty, len-insert}
 use Rattle.std.specs.FinMap.Entries.{below_all, same_entries}
 use Rattle.std.proofs.lemmas.Bool.{false≢true}
 use Rattle.std.proofs.lemmas.List.{get_or-map, length-map}
@@ -39,6 +39,22 @@ pub distinct_shown : {Z : Type 0} (es : List (Vec ℕ Z × ℕ)) → IsDistinct 
 unfolding IsDistinct
 distinct_shown [] h = tt
 distinct_shown (e ∷ es) h = (apart_shown e.0.items es e.0 refl h.0, distinct_shown es h.1)
+
+-- a map of entries with different keys has as many
+not_found : (x : List ℕ) (es : List (List ℕ × ℕ)) → AllByRecursion (λ y. E x y ≡ false) (keys_of es) → lookup (E x) es ≡ None
+not_found x [] h = refl
+not_found x (e ∷ es) h = ap (λ b. cond b (Some e.1) (lookup (E x) es)) h.0 ∙ not_found x es h.1
+
+as_many : (es : List (List ℕ × ℕ)) → IsDistinct E (keys_of es) → len (from_entries {R = R} es) ≡ length es
+unfolding IsDistinct
+as_many [] h = len-empty R ℕ
+as_many (e ∷ es) h =
+    let m = from_entries {R = R} es in
+    let absent : get m e.0 ≡ None = get-from_entries nat_list_cmp_total es e.0 ∙ find_is R e.0 es ∙ not_found e.0 es h.0 in
+    len-insert nat_list_cmp_total m e.0 e.1 ∙ ap (λ o. cond (is_some o) (len m) (len m + 1)) absent ∙ omega (arith, as_many es h.1)
+
+pub told_as_many : {Z : Type 0} (es : List (Vec ℕ Z × ℕ)) → IsDistinct same_bytes (keys_of es) → len (told es) ≡ length es
+told_as_many es unique = as_many (shown es) (distinct_shown es unique) ∙ length-map es (λ e. (e.0.items, e.1))
 
 -- ---- a list of entries in another order finds the same
 into : (es qs : List (List ℕ × ℕ)) → IsDistinct E (keys_of qs) → IsPermutation es qs → (q : List ℕ) (v : ℕ) → lookup (E q) es ≡ Some v → lookup (E q) qs ≡ Some v

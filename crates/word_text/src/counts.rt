@@ -44,6 +44,13 @@ impl Counts {
         }
     }
 
+    /// How many different words were counted.
+    pub fn distinct(&self) -> usize
+        ensures { result ≡ map_of.len self.now }
+    {
+        self.table.len()
+    }
+
     fn add(&mut self, alloc: Global, word: &[u8], number: u64) -> Result<(), AllocError>
         requires some { 0 < number }
         requires room { total self.old + number < 2 ^ 63 }
