@@ -27,10 +27,6 @@ pub record IsLater (g : Grid) (ws ws' : List ℕ) (vs vs' : List View) : Type 0 
   pub committed : (k : ℕ) → committed_word g ws k ≤ committed_word g ws' k
   pub made : KeepsMade vs vs'
 
--- a seat that is in a take
-abbrev pub IsTaking : View → Type 0
-IsTaking v = (q : SoleTake) × (v.phase ≡ Some (Take q))
-
 module _ (g : Grid) (ws ws' : List ℕ) (vs vs' : List View) (later : IsLater g ws ws' vs vs') where
   take_later : (next : ℕ) (read : List ℕ) (q : SoleTake) → TakeKnows g (scene g next ws vs) read q → TakeKnows g (scene g next ws' vs') read q
   take_later next read (Com r) f = f

@@ -66,15 +66,12 @@ in_one f z (x ∷ xs) (suc id) v ph r at e =
     let n = in_one f z xs id v ph (λ j u d k. r (suc j) u (λ q. d (omega arith)) k) at e in
     let p = ap f (r 0 x (λ q. omega arith) refl) in omega (arith, sum_by-cons (λ (u : View). f u.phase) x xs)
 
--- only one seat counts, and it stands in this phase; or all seats are at rest
+-- only one seat counts, and it stands in this phase
 pub record IsOnly (vs : List View) (ph : Option SolePhase) : Type 0 where
   pub sum : (f : Option SolePhase → ℕ) → f None ≡ 0 → in_all f vs ≡ f ph
 
 pub only_one : (vs : List View) (id : ℕ) (v : View) (ph : Option SolePhase) → OthersRest vs id → slice_get vs id ≡ Some v → v.phase ≡ ph → IsOnly vs ph
 only_one vs id v ph rest at e = record { sum = λ f z. in_one f z vs id v ph rest at e }
-
-pub only_none : (vs : List View) → AllRest vs → IsOnly vs None
-only_none vs rest = record { sum = λ f z. let n = all_none f z vs rest in omega arith }
 
 module _ (g : Grid) (front : Front) (next : ℕ) (ws : List ℕ) (vs : List View) (ph : Option SolePhase) (limits : IsWithinLimits g) (s : IsSoundAt g front next ws vs) (m : put_work.IsManned stage_of g front (put_cursors g ws) vs) (only : IsOnly vs ph) where
   -- nothing lags that the seat does not stand for
