@@ -1,6 +1,6 @@
 #!/usr/bin/env bash
 # Times the word count against wc -w and a pipeline of tr, sort and uniq on two texts, compares what they count, and prints the ratios of the
-# least times: of three runs each, and of twenty of the program on the first text. What the spans cost is the ratio to a run over the same text in few pieces.
+# least times: of three runs each, and of twenty of the program on the first text. What the spans cost is the ratio to a run over the same text in few pieces. Last it times the first text once more, read by one worker and made by --generate.
 set -eu
 top=$(cd "$(dirname "$0")/.." && pwd)
 folder=$(mktemp -d)
@@ -56,3 +56,8 @@ for text in few.txt many.txt; do
     awk -v t="$text" -v o="$ours" -v w="$wc" -v p="$pipe" -v f="$few" 'BEGIN {
         printf "%s: bbq-profile %d ms, in few pieces %d ms, wc -w %d ms, pipeline %d ms; to few pieces %.3f, to wc -w %.2f, pipeline to bbq-profile %.1f\n", t, o, f, w, p, o / f, o / w, p / o }'
 done
+
+# the first text again, read and made
+read=$(least 10 "$top/crates/bbq_profile/out/bbq_profile" --workers 1 few.txt)
+made=$(least 10 "$top/crates/bbq_profile/out/bbq_profile" --workers 1 --generate 10000000)
+awk -v r="$read" -v m="$made" 'BEGIN { printf "few.txt: read %d ms, made %d ms; made to read %.2f\n", r, m, m / r }'

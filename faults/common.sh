@@ -30,36 +30,39 @@ trace_now() {
     esac
 }
 
-# What is wrong with the counts, the trace and the folded times of a run with --fold, whose counts are those of 'whole', where they have to be all there ('whole') or may be cut short ('part').
-wrong_with() {
-    local said trace folded=none
-    said=$(cat counts)
-    case $said in '') said=none ;; "$(cat whole)") said=whole ;; *) said=other ;; esac
-    trace=$(trace_now)
+# Begins a run with --fold: an older trace, and no folded times.
+begin() {
+    rm -f trace.json.folded
+    printf '%s' "$older" >trace.json
+}
+
+# What such a run left, whose counts are those of 'whole'.
+left_now() {
+    local said folded=none
+    case $(cat counts) in '') said=none ;; "$(cat whole)") said=whole ;; *) said=other ;; esac
     [ ! -e trace.json.folded ] || folded=begun
-    case "$1: $said $trace $folded" in
-    'whole: whole whole begun') ;;
-    'part: none older none' | 'part: whole older none' | 'part: whole part none' | 'part: whole whole none' | 'part: whole whole begun') ;;
-    *) echo "counts $said, trace $trace, folded times $folded" ;;
-    esac
+    echo "counts $said, trace $(trace_now), folded times $folded"
 }
 
-# What is wrong after a run that ended with this status for want of memory, or in spite of it.
-wrong_after() {
-    case $1 in
-    0) wrong_with whole ;;
-    3)
-        [ "$(cat messages)" = 'bbq-profile: out of memory' ] || [ ! -s messages ] || echo "the message '$(cat messages)'"
-        wrong_with part
+# What is wrong where a run without all memory ended with this status and left that.
+wrong_with() {
+    case "$1: $2" in
+    '0: counts whole, trace whole, folded times begun') return ;;
+    '3: counts none, trace older, folded times none' | '3: counts whole, trace older, folded times none') ;;
+    '3: counts whole, trace part, folded times none' | '3: counts whole, trace whole, folded times none') ;;
+    '3: counts whole, trace whole, folded times begun') ;;
+    *)
+        echo "status $1, $2"
+        return
         ;;
-    4 | 5 | 9) wrong_with part ;;
-    *) echo "status $1" ;;
     esac
+    # The list of arguments may be what there is no memory for.
+    [ "$(cat messages)" = 'bbq-profile: out of memory' ] || [ ! -s messages ] || echo "the message '$(cat messages)'"
 }
 
-# Each of the words once, in order, with how often it stands there.
+# How often each of these came.
 tally() {
-    printf '%s\n' "$@" | sort -n | uniq -c | awk '{ printf "%s%s (%d)", (NR > 1 ? ", " : ""), $2, $1 }'
+    printf '%s\n' "$@" | sort | uniq -c
 }
 
 summary() {
