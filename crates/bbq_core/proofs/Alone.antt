@@ -12,7 +12,7 @@ use Rattle.cursor_word.specs.declared.cursor.Cursor.{Cursor}
 use Rattle.machine.specs.declared.op.After.TheVariants.{Next}
 use Rattle.machine.specs.Steps.{words_after}
 use Rattle.rail.specs.Sequential.{IsFull}
-use Rattle.put_side.specs.Cursors.{Front, allocated_word, committed_word, place}
+use Rattle.put_side.specs.Cursors.{Front, allocated_word, committed_word, consumed_word, place, reserved_word}
 use Rattle.put_side.specs.Stages as stages
 use Rattle.put_side.specs.PutTable.{stage_in}
 use Rattle.put_side.proofs.Sums.{by_test_le}
@@ -24,7 +24,6 @@ use Rattle.bbq_core.specs.Types.{After, View}
 use Rattle.bbq_core.specs.PutSteps.{filled, older_consumed}
 use Rattle.bbq_core.specs.Table.{table}
 use Rattle.bbq_core.specs.Stage.{stage, stage_of}
-use Rattle.bbq_core.specs.Cursors.{consumed_word, reserved_word}
 use Rattle.bbq_core.specs.Sound.{IsSoundAt, Knows, scene}
 use Rattle.bbq_core.proofs.AtAnswers.{full_at}
 use Rattle.bbq_core.proofs.Lone.{consumed_is, not_consumed, reused_reserved}

@@ -12,7 +12,7 @@ use Rattle.rail.specs.Sequential.{retry_take}
 use Rattle.rail.specs.declared.answer.Take.TheVariants as take
 use Rattle.machine.specs.declared.op.After.TheVariants.{Next}
 use Rattle.machine.specs.Steps.{view_after, words_after}
-use Rattle.put_side.specs.Cursors.{Front, allocated_word, committed_word, place}
+use Rattle.put_side.specs.Cursors.{Front, allocated_word, committed_word, consumed_word, place, reserved_word}
 use Rattle.put_side.specs.Counts.{makes, one_below}
 use Rattle.put_side.proofs.Sums.{none_from, one_in}
 use Rattle.put_side.proofs.Facts.{physical, repacked, unpacked_is}
@@ -23,7 +23,6 @@ use Rattle.bbq_core.specs.declared.take_phase.TakePhase.TheVariants.{HeadC, SeeR
 use Rattle.bbq_core.specs.Types.{After, View}
 use Rattle.bbq_core.specs.TakeSteps.{passed}
 use Rattle.bbq_core.specs.Table.{table}
-use Rattle.bbq_core.specs.Cursors.{consumed_word, reserved_word}
 use Rattle.bbq_core.specs.Sound.{IsSoundAt}
 use Rattle.bbq_core.proofs.AtAnswers.{empty_at, empty_past}
 use Rattle.bbq_core.proofs.Lone.{committed_is, consumed_is}

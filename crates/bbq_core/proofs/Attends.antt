@@ -6,7 +6,7 @@ use Rattle.cursor_word.specs.Shape.{Grid, IsWithinLimits}
 use Rattle.cursor_word.specs.Cursor.{offset_span}
 use Rattle.cursor_word.specs.declared.cursor.Cursor.{Cursor}
 use Rattle.machine.proofs.Lists.{get_set_same, one_le_sum, sum_set}
-use Rattle.put_side.specs.Cursors.{Front, put_cursors}
+use Rattle.put_side.specs.Cursors.{Front, consumed_word, put_cursors, reserved_word}
 use Rattle.put_side.specs.Counts.{one_at}
 use Rattle.put_side.specs.Manned as put_work
 use Rattle.put_side.specs.Stages as stages
@@ -20,7 +20,7 @@ use Rattle.bbq_core.specs.declared.take_phase.TakePhase.{TakePhase}
 use Rattle.bbq_core.specs.declared.take_phase.TakePhase.TheVariants.{OpenR}
 use Rattle.bbq_core.specs.Types.{View}
 use Rattle.bbq_core.specs.Stage.{stage, stage_of}
-use Rattle.bbq_core.specs.Cursors.{TakeCursors, TakeWords, consumed_word, reserved_word, take_cursors}
+use Rattle.bbq_core.specs.Cursors.{TakeCursors, TakeWords, take_cursors}
 use Rattle.bbq_core.specs.Sound.{IsManned, in_all, opens_reserved, raises_consumer}
 use Rattle.bbq_core.proofs.Loads.{same_words}
 use Rattle.bbq_core.proofs.TakeSteps.{IsTakeWord, keeps_put_words}

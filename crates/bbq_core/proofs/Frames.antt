@@ -8,7 +8,7 @@ use Rattle.cursor_word.specs.declared.cursor.Cursor.{Cursor}
 use Rattle.rail.specs.declared.entry.Placed.{Placed}
 use Rattle.rail.specs.Items.{IsRising, places}
 use Rattle.machine.proofs.Lists.{get_set}
-use Rattle.put_side.specs.Cursors.{Front, place}
+use Rattle.put_side.specs.Cursors.{Front, consumed_word, place, reserved_word}
 use Rattle.put_side.specs.Counts.{times}
 use Rattle.put_side.specs.Places.{IsCurrent}
 use Rattle.put_side.specs.PutSide.{PutSide}
@@ -20,7 +20,7 @@ use Rattle.bbq_core.specs.declared.take_phase.TakePhase.{TakePhase}
 use Rattle.bbq_core.specs.declared.take_phase.TakePhase.TheVariants.{HeadC, SeeRes, SeeCom, SeeAll, Reserve, Read, Consume, NextCom, OpenX, OpenR, RaiseC}
 use Rattle.bbq_core.specs.Types.{View}
 use Rattle.bbq_core.specs.Stage.{stage_of}
-use Rattle.bbq_core.specs.Cursors.{TakeCursors, TakeWords, consumed_word, reserved_word, take_cursors}
+use Rattle.bbq_core.specs.Cursors.{TakeCursors, TakeWords, take_cursors}
 use Rattle.bbq_core.specs.Counts.{TakeCounts, fetch_count, fetched, fetches, reading_in, takes}
 use Rattle.bbq_core.specs.Sound.{IsPassed, IsReserved, IsSoundAt, Knows, Scene, TakeFits, TakeKnows, TakeTurn, scene}
 

@@ -9,7 +9,7 @@ use Rattle.rail.specs.declared.entry.Placed.{Placed}
 use Rattle.machine.specs.Invariant.{made_count, made_total}
 use Rattle.machine.specs.Steps.{finds, view_after, words_after}
 use Rattle.machine.proofs.Lists.{get_set, get_set_other, sum_set}
-use Rattle.put_side.specs.Cursors.{Front, allocated_word}
+use Rattle.put_side.specs.Cursors.{Front, allocated_word, reserved_word}
 use Rattle.put_side.specs.Counts.{makes, one_below}
 use Rattle.put_side.specs.Stages as stages
 use Rattle.put_side.specs.Stages.{PutStage}
@@ -20,7 +20,6 @@ use Rattle.bbq_core.specs.Types.{After, View}
 use Rattle.bbq_core.specs.PutSteps.{after}
 use Rattle.bbq_core.specs.Table.{table}
 use Rattle.bbq_core.specs.Stage.{stage}
-use Rattle.bbq_core.specs.Cursors.{reserved_word}
 use Rattle.bbq_core.specs.Counts.{held, reading, taken_count, taken_total, takes}
 use Rattle.bbq_core.specs.Sound.{IsManned, IsSoundAt, opens_reserved, raises_consumer}
 use Rattle.bbq_core.specs.Alone.{GoesOnAlone, IsAlone, IsStill, LoneKnows, OthersRest}

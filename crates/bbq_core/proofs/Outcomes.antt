@@ -28,7 +28,7 @@ use Rattle.machine.proofs.Lists.{one_le_sum}
 use Rattle.cursor_word.proofs.Blocks.{latest, latest_is, same_block}
 use Rattle.bbq_core.proofs.AtAnswers.{empty_at, empty_past, full_at}
 use Rattle.machine.specs.Steps.{finds}
-use Rattle.put_side.specs.Cursors.{Front, allocated_word, committed_word, place, put_cursors}
+use Rattle.put_side.specs.Cursors.{Front, allocated_word, committed_word, consumed_word, place, put_cursors, reserved_word}
 use Rattle.put_side.specs.Counts.{makes, one_at, times}
 use Rattle.put_side.specs.Entries.{IsMade}
 use Rattle.put_side.specs.Places.{IsFilled, IsTurn, PutKnows}
@@ -40,7 +40,6 @@ use Rattle.put_side.proofs.SeatItems.{gains, not_among, own_item}
 use Rattle.bbq_core.specs.PutSteps.{after, filled, older_consumed}
 use Rattle.bbq_core.specs.Table.{table}
 use Rattle.bbq_core.specs.Stage.{stage, stage_of}
-use Rattle.bbq_core.specs.Cursors.{consumed_word, reserved_word}
 use Rattle.bbq_core.specs.Counts.{fetches, held, reading}
 use Rattle.bbq_core.specs.Sound.{IsSound, IsSoundAt, Knows, TakeKnows, scene}
 use Rattle.bbq_core.proofs.Loads.{pick_equal, pick_less, pick_same}

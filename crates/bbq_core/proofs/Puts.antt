@@ -12,7 +12,7 @@ use Rattle.rail.specs.declared.answer.Answer.TheVariants as answer
 use Rattle.rail.specs.Items.{places}
 use Rattle.machine.specs.declared.op.After.TheVariants.{Next, Done}
 use Rattle.machine.specs.Steps.{finds, phase_after, taken_after, view_after, words_after}
-use Rattle.put_side.specs.Cursors.{Front, place, put_cursors}
+use Rattle.put_side.specs.Cursors.{Front, consumed_word, place, put_cursors}
 use Rattle.put_side.specs.Counts.{makes}
 use Rattle.put_side.specs.Stages as stages
 use Rattle.put_side.specs.PutTable.{IsShared, MayOpen}
@@ -29,7 +29,7 @@ use Rattle.bbq_core.specs.Types.{After, View}
 use Rattle.bbq_core.specs.PutSteps.{after, older_consumed}
 use Rattle.bbq_core.specs.Table.{table}
 use Rattle.bbq_core.specs.Stage.{stage, stage_of}
-use Rattle.bbq_core.specs.Cursors.{TakeCursors, TakeWords, consumed_word, take_cursors}
+use Rattle.bbq_core.specs.Cursors.{TakeCursors, TakeWords, take_cursors}
 use Rattle.bbq_core.specs.Counts.{reading, takes}
 use Rattle.bbq_core.specs.Sound.{IsSoundAt, Knows, Scene, scene}
 use Rattle.bbq_core.proofs.PutSteps.{puts}

@@ -11,7 +11,9 @@ use Rattle.put_side.proofs.Sums.{rising_front}
 use Rattle.bbq_core.specs.Types.{MachineState}
 use Rattle.bbq_core.specs.Table.{table}
 use Rattle.bbq_core.specs.Counts.{held, reading}
-use Rattle.bbq_core.specs.Laws.{MadeRises, PlacesAreDense, TakenIsMade, TakenOnce, TakenRises}
+use Rattle.put_side.specs.Laws.{MadeRises, PlacesAreDense, TakenIsMade, TakenRises}
+use Rattle.bbq_core.specs.Laws.{TakenOnce}
+use Rattle.bbq_core.specs.Stage.{stage}
 use Rattle.bbq_core.specs.Sound.{IsSound}
 use Rattle.bbq_core.proofs.Keeping.{keeps}
 
@@ -19,7 +21,7 @@ module _ (g : Grid) (events : List Event) (limits : IsWithinLimits g) (suits : A
   pub moment_sound : (n : ℕ) → (let w = moment table g events n in IsSound g w.words w.views)
   moment_sound n = moment_holds table IsSound keeps g limits events n suits few
 
-pub dense : (g : Grid) (w : MachineState) → IsSound g w.words w.views → PlacesAreDense g w.views
+pub dense : (g : Grid) (w : MachineState) → IsSound g w.words w.views → PlacesAreDense stage g w.views
 dense g w k = record { count = k.front.next; once = k.sound.puts.places.counts.once }
 
 pub made_rises : (g : Grid) (w : MachineState) → IsSound g w.words w.views → MadeRises w.views

@@ -7,7 +7,7 @@ use Rattle.cursor_word.specs.declared.cursor.Cursor.{Cursor}
 use Rattle.rail.specs.Items.{placed}
 use Rattle.machine.specs.Invariant.{CanStep, IsRead, made_total}
 use Rattle.machine.specs.Steps.{finds}
-use Rattle.put_side.specs.Cursors.{Front, put_cursors}
+use Rattle.put_side.specs.Cursors.{Front, put_cursors, reserved_word}
 use Rattle.put_side.specs.Places.{IsCurrent, IsFilled, IsTurn, PutKnows}
 use Rattle.put_side.specs.PutTable.{stage_in}
 use Rattle.put_side.proofs.Facts.{filled_opened, physical}
@@ -21,7 +21,6 @@ use Rattle.bbq_core.specs.Table.{table}
 use Rattle.bbq_core.specs.PutSteps.{FindsFit, IsInRange, after, older_consumed}
 use Rattle.bbq_core.specs.TakeSteps as take_steps
 use Rattle.bbq_core.specs.Stage.{stage, stage_of}
-use Rattle.bbq_core.specs.Cursors.{reserved_word}
 use Rattle.bbq_core.specs.Sound.{IsSound, IsSoundAt, Knows, TakeTurn, scene}
 use Rattle.bbq_core.proofs.Loads.{pick_any}
 use Rattle.bbq_core.proofs.TakeFacts.{reserved_below}

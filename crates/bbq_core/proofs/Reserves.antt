@@ -17,7 +17,7 @@ use Rattle.rail.specs.declared.answer.Why.TheVariants as why
 use Rattle.machine.specs.declared.op.After.TheVariants.{Next, Done}
 use Rattle.machine.specs.Steps.{view_after, words_after}
 use Rattle.machine.proofs.Lists.{one_le_sum, sum_set}
-use Rattle.put_side.specs.Cursors.{Front, place}
+use Rattle.put_side.specs.Cursors.{Front, consumed_word, place, reserved_word}
 use Rattle.put_side.specs.Counts.{one_at, times}
 use Rattle.put_side.proofs.Sums.{none_from, rising_push, sum_same, times_push, upto_same}
 use Rattle.put_side.proofs.Facts.{physical}
@@ -27,7 +27,7 @@ use Rattle.bbq_core.specs.declared.phase.Phase.TheVariants.{Take}
 use Rattle.bbq_core.specs.declared.take_phase.TakePhase.TheVariants.{Reserve, Read}
 use Rattle.bbq_core.specs.Types.{After, View}
 use Rattle.bbq_core.specs.Table.{table}
-use Rattle.bbq_core.specs.Cursors.{TakeCursors, TakeWords, consumed_word, reserved_word, take_cursors}
+use Rattle.bbq_core.specs.Cursors.{TakeCursors, TakeWords, take_cursors}
 use Rattle.bbq_core.specs.Counts.{fetch_count, fetched, fetches, reading, takes}
 use Rattle.bbq_core.specs.Sound.{IsSoundAt}
 use Rattle.bbq_core.proofs.Frames.{after_step, fits_later, take_cursors_are}

@@ -12,7 +12,7 @@ use Rattle.machine.specs.Steps.{IsWide, begun, resting, start_words}
 use Rattle.machine.specs.declared.event.Start.{Start}
 use Rattle.machine.specs.declared.event.Start.TheVariants as start
 use Rattle.machine.proofs.Lists.{get_replicate, set_again}
-use Rattle.put_side.specs.Cursors.{Front, place}
+use Rattle.put_side.specs.Cursors.{Front, consumed_word, place}
 use Rattle.put_side.specs.Counts.{one_below}
 use Rattle.put_side.specs.PutSide.{PutSide}
 use Rattle.put_side.specs.Stages as stages
@@ -27,7 +27,7 @@ use Rattle.bbq_core.specs.declared.take_phase.TakePhase.{TakePhase}
 use Rattle.bbq_core.specs.Types.{View}
 use Rattle.bbq_core.specs.Table.{MayBegin, table}
 use Rattle.bbq_core.specs.Stage.{stage, stage_of}
-use Rattle.bbq_core.specs.Cursors.{TakeWords, consumed_word, take_cursors}
+use Rattle.bbq_core.specs.Cursors.{TakeWords, take_cursors}
 use Rattle.bbq_core.specs.Counts.{TakeCounts, fetch_count, fetches, reading, reading_in, takes}
 use Rattle.bbq_core.specs.Sound.{IsManned, IsSound, IsSoundAt, Knows, TakeFits, opens_reserved, raises_consumer, scene}
 use Rattle.bbq_core.proofs.Frames.{quiet}

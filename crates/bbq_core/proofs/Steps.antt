@@ -9,7 +9,7 @@ use Rattle.cursor_word.specs.Layout.{entry_index}
 use Rattle.cursor_word.specs.declared.cursor.Cursor.{Cursor}
 use Rattle.machine.specs.Steps.{view_after, words_after}
 use Rattle.machine.proofs.Lists.{get_set_same}
-use Rattle.put_side.specs.Cursors.{Front}
+use Rattle.put_side.specs.Cursors.{Front, reserved_word}
 use Rattle.put_side.specs.PutTable.{IsShared}
 use Rattle.put_side.specs.Counts.{one_at}
 use Rattle.put_side.proofs.Facts.{physical}
@@ -23,7 +23,7 @@ use Rattle.bbq_core.specs.declared.take_phase.TakePhase.TheVariants.{HeadC, SeeR
 use Rattle.bbq_core.specs.Types.{View}
 use Rattle.bbq_core.specs.Table.{table}
 use Rattle.bbq_core.specs.Stage.{stage}
-use Rattle.bbq_core.specs.Cursors.{TakeWords, reserved_word, take_cursors}
+use Rattle.bbq_core.specs.Cursors.{TakeWords, take_cursors}
 use Rattle.bbq_core.specs.Sound.{IsManned, IsSoundAt, opens_reserved, raises_consumer}
 use Rattle.bbq_core.proofs.Puts.{keeps_put, shared_step}
 use Rattle.bbq_core.proofs.Loads.{keeps_SeeR, keeps_SeeX}

@@ -13,7 +13,7 @@ use Rattle.cursor_word.proofs.Blocks.{latest, latest_is, same_block, shifted}
 use Rattle.rail.specs.declared.entry.Placed.{Placed}
 use Rattle.rail.specs.Items.{places}
 use Rattle.machine.proofs.Lists.{one_le_sum}
-use Rattle.put_side.specs.Cursors.{Front, place}
+use Rattle.put_side.specs.Cursors.{Front, consumed_word, place}
 use Rattle.put_side.specs.Counts.{makes, one_at, one_below, sum_below, times}
 use Rattle.put_side.specs.Places.{IsCurrent}
 use Rattle.put_side.proofs.Sums.{none_from, one_in, one_to, some_counts, sum_gap, times-cons, times_push, upto_misses}
@@ -26,7 +26,7 @@ use Rattle.bbq_core.specs.declared.phase.Phase.TheVariants.{Take}
 use Rattle.bbq_core.specs.declared.take_phase.TakePhase.TheVariants.{Read, Consume}
 use Rattle.bbq_core.specs.Types.{View}
 use Rattle.bbq_core.specs.Stage.{stage_of}
-use Rattle.bbq_core.specs.Cursors.{IsHalfOpen, TakeCursors, TakeWords, consumed_word}
+use Rattle.bbq_core.specs.Cursors.{IsHalfOpen, TakeCursors, TakeWords}
 use Rattle.bbq_core.specs.Counts.{claims, fetches, reading, takes}
 use Rattle.bbq_core.specs.Sound.{IsSoundAt, Knows, Scene, scene}
 

@@ -10,7 +10,7 @@ use Rattle.rail.specs.declared.answer.Answer.TheVariants as answer
 use Rattle.rail.specs.declared.answer.Take.TheVariants as taking
 use Rattle.machine.specs.declared.op.After.TheVariants.{Next}
 use Rattle.machine.specs.Steps.{view_after, words_after}
-use Rattle.put_side.specs.Cursors.{Front, committed_word, place}
+use Rattle.put_side.specs.Cursors.{Front, committed_word, place, reserved_word}
 use Rattle.put_side.specs.Counts.{makes, sum_below}
 use Rattle.put_side.proofs.Sums.{none_from, one_to, upto_all, upto_cut, upto_from, upto_le}
 use Rattle.put_side.proofs.Facts.{IsPhysical, found_open, physical, repacked}
@@ -20,7 +20,7 @@ use Rattle.bbq_core.specs.declared.take_phase.TakePhase.TheVariants.{HeadC, SeeR
 use Rattle.bbq_core.specs.Types.{After, View}
 use Rattle.bbq_core.specs.TakeSteps.{after_take, passed}
 use Rattle.bbq_core.specs.Table.{table}
-use Rattle.bbq_core.specs.Cursors.{reserved_word, take_cursors}
+use Rattle.bbq_core.specs.Cursors.{take_cursors}
 use Rattle.bbq_core.specs.Counts.{reading}
 use Rattle.bbq_core.specs.Sound.{IsReserved, IsSoundAt, Knows, TakeKnows, scene}
 use Rattle.bbq_core.proofs.Loads.{IsNextOwn, answers, go_on, loads, pick_any, pick_equal, pick_less, pick_same}

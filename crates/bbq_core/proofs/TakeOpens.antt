@@ -14,7 +14,7 @@ use Rattle.rail.specs.declared.entry.Placed.{Placed}
 use Rattle.rail.specs.Items.{IsRising, places}
 use Rattle.machine.specs.declared.op.After.TheVariants.{Next}
 use Rattle.machine.specs.Steps.{view_after}
-use Rattle.put_side.specs.Cursors.{Front, place}
+use Rattle.put_side.specs.Cursors.{Front, consumed_word, place, reserved_word}
 use Rattle.put_side.specs.Counts.{sum_below, times}
 use Rattle.put_side.specs.Places.{IsCurrent}
 use Rattle.put_side.proofs.Sums.{none_from, sum_same, upto_none, upto_same}
@@ -25,7 +25,7 @@ use Rattle.bbq_core.specs.declared.take_phase.TakePhase.{TakePhase}
 use Rattle.bbq_core.specs.declared.take_phase.TakePhase.TheVariants.{Read, Consume, OpenX, OpenR}
 use Rattle.bbq_core.specs.Types.{View}
 use Rattle.bbq_core.specs.Table.{table}
-use Rattle.bbq_core.specs.Cursors.{TakeCursors, TakeWords, consumed_word, reserved_word, take_cursors}
+use Rattle.bbq_core.specs.Cursors.{TakeCursors, TakeWords, take_cursors}
 use Rattle.bbq_core.specs.Counts.{fetch_count, fetched, fetches, reading, reading_in, takes}
 use Rattle.bbq_core.specs.Sound.{IsSoundAt, Knows, Scene, TakeFits, TakeKnows, scene}
 use Rattle.bbq_core.proofs.Frames.{after_step, fits_later, take_cursors_are}

@@ -11,13 +11,13 @@ use Rattle.cursor_word.proofs.Blocks.{same_near}
 use Rattle.rail.specs.Items.{places}
 use Rattle.machine.specs.declared.op.After.TheVariants.{Next}
 use Rattle.machine.specs.Steps.{view_after, words_after}
-use Rattle.put_side.specs.Cursors.{Front, place}
+use Rattle.put_side.specs.Cursors.{Front, consumed_word, place, reserved_word}
 use Rattle.put_side.proofs.Facts.{physical}
 use Rattle.bbq_core.specs.declared.phase.Phase.TheVariants.{Take}
 use Rattle.bbq_core.specs.declared.take_phase.TakePhase.TheVariants.{OpenR, RaiseC}
 use Rattle.bbq_core.specs.Types.{View}
 use Rattle.bbq_core.specs.Table.{table}
-use Rattle.bbq_core.specs.Cursors.{IsHalfOpen, IsOpen, TakeCursors, TakeWords, consumed_word, reserved_word, take_cursors}
+use Rattle.bbq_core.specs.Cursors.{IsHalfOpen, IsOpen, TakeCursors, TakeWords, take_cursors}
 use Rattle.bbq_core.specs.Counts.{reading}
 use Rattle.bbq_core.specs.Sound.{IsSoundAt}
 use Rattle.bbq_core.proofs.Frames.{quiet, take_cursors_are}

@@ -2,14 +2,7 @@
 use Rattle.std.specs.Prelude.{◌≡◌, ℕ, ◌+◌, ◌*◌, ◌/◌, ◌%◌, ◌<◌, ◌≤◌, ◌⊎◌, List, slice_index}
 use Rattle.cursor_word.specs.Shape.{Grid}
 use Rattle.cursor_word.specs.Cursor.{offset_span}
-use Rattle.put_side.specs.Cursors.{Front, place}
-
--- the reserved and the consumed cursor's word of a block
-abbrev pub reserved_word : Grid → List ℕ → ℕ → ℕ
-reserved_word shape words block = slice_index words (4 + 4 * (block % shape.blocks))
-
-abbrev pub consumed_word : Grid → List ℕ → ℕ → ℕ
-consumed_word shape words block = slice_index words (5 + 4 * (block % shape.blocks))
+use Rattle.put_side.specs.Cursors.{Front, consumed_word, place, reserved_word}
 
 -- the consumer head, and the two cursors of each block number's physical block
 pub record TakeCursors : Type 0 where

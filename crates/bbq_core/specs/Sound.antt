@@ -6,7 +6,7 @@ use Rattle.cursor_word.specs.Cursor.{offset_span, packed, place_at}
 use Rattle.cursor_word.specs.declared.cursor.Cursor.{Cursor}
 use Rattle.rail.specs.declared.entry.Placed.{Placed}
 use Rattle.rail.specs.Items.{IsRising, placed, places}
-use Rattle.put_side.specs.Cursors.{Front, committed_word, place, put_cursors}
+use Rattle.put_side.specs.Cursors.{Front, committed_word, consumed_word, place, put_cursors, reserved_word}
 use Rattle.put_side.specs.Counts.{makes, one_at}
 use Rattle.put_side.specs.Places.{IsCurrent}
 use Rattle.put_side.specs.Entries.{IsMade}
@@ -19,7 +19,7 @@ use Rattle.bbq_core.specs.declared.take_phase.TakePhase.TheVariants.{HeadC, SeeR
 use Rattle.bbq_core.specs.Types.{View}
 use Rattle.bbq_core.specs.PutSteps.{older_consumed}
 use Rattle.bbq_core.specs.Stage.{stage_of}
-use Rattle.bbq_core.specs.Cursors.{TakeCursors, TakeWords, consumed_word, reserved_word, take_cursors}
+use Rattle.bbq_core.specs.Cursors.{TakeCursors, TakeWords, take_cursors}
 use Rattle.bbq_core.specs.Counts.{TakeCounts, fetched, reading_in}
 
 -- what a seat may remember something of: the last block opened to takes, the cursors that takes

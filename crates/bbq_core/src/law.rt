@@ -8,7 +8,10 @@ ghost use Rattle.bbq_core.specs.PutSteps.{IsInRange, after, rank};
 ghost use Rattle.bbq_core.specs.Table.{table};
 ghost use Rattle.machine.specs.Steps.{AllRest, Suits};
 ghost use Rattle.machine.specs.Moments.{moment, seat_at};
-ghost use Rattle.bbq_core.specs.Laws.{MadeRises, PlacesAreDense, TakenIsMade, TakenOnce, TakenRises, WordsAreSmall, most_steps, steps_of_phase};
+ghost use Rattle.bbq_core.specs.Laws.{TakenOnce, most_steps, steps_of_phase};
+ghost use Rattle.bbq_core.specs.Stage.{stage};
+ghost use Rattle.put_side.specs.Laws.{BlocksAreSmall, MadeRises, PlacesAreDense, TakenIsMade, TakenRises, WordsAreSmall};
+ghost use Rattle.put_side.specs.Cursors.{consumed_word};
 ghost use Rattle.bbq_core.specs.Gathered.{IsSettled};
 
 use cursor_word::Shape;
@@ -20,10 +23,12 @@ pub fn law_accepted(shape: &Shape, events: &[Event])
     requires suits { AllByRecursion (Suits table shape.now) events.now }
     requires few { length events.now < most_puts shape.now }
     ensures dense { (n : ℕ)
-        → PlacesAreDense shape.now (moment table shape.now events.now n).views }
+        → PlacesAreDense stage shape.now (moment table shape.now events.now n).views }
     ensures rising { (n : ℕ) → MadeRises (moment table shape.now events.now n).views }
     ensures small { (n : ℕ)
         → WordsAreSmall shape.now (moment table shape.now events.now n).words }
+    ensures consumed { (n : ℕ) → BlocksAreSmall shape.now
+        (consumed_word shape.now (moment table shape.now events.now n).words) }
 {
     let _blocks = shape.blocks();
 }
@@ -51,11 +56,12 @@ pub fn law_steps(shape: &Shape, events: &[Event])
     ensures bound { (n seat : ℕ) (view : View)
         → seat_at table shape.now events.now n seat ≡ Some view
         → length view.trail ≤ most_steps shape.now view.phase view.answer }
-    ensures rank { (n seat : ℕ) (view : View) (p : Phase)
-        → seat_at table shape.now events.now n seat ≡ Some view → view.phase ≡ Some p
-        → length view.trail + rank shape.now p ≤ steps_of_phase shape.now p }
-    ensures falls { (p next : Phase) (old : ℕ) → IsInRange shape.now p
-        → after shape.now p old ≡ Next next → rank shape.now next < rank shape.now p }
+    ensures rank { (n seat : ℕ) (view : View) (phase : Phase)
+        → seat_at table shape.now events.now n seat ≡ Some view → view.phase ≡ Some phase
+        → length view.trail + rank shape.now phase ≤ steps_of_phase shape.now phase }
+    ensures falls { (phase next : Phase) (found : ℕ) → IsInRange shape.now phase
+        → after shape.now phase found ≡ Next next
+        → rank shape.now next < rank shape.now phase }
 {
     let _blocks = shape.blocks();
 }

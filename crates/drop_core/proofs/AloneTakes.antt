@@ -9,7 +9,7 @@ use Rattle.cursor_word.specs.Cursor.{offset_span, packed, place_at}
 use Rattle.cursor_word.specs.declared.cursor.Cursor.{Cursor}
 use Rattle.rail.specs.Sequential.{drop_next}
 use Rattle.machine.specs.declared.op.After.TheVariants.{Next}
-use Rattle.put_side.specs.Cursors.{allocated_word, committed_word, place, Front}
+use Rattle.put_side.specs.Cursors.{Front, allocated_word, committed_word, place, reserved_word}
 use Rattle.put_side.proofs.Facts.{allocated_to, place_next, repacked, unpacked_is}
 use Rattle.put_side.proofs.Sums.{none_from}
 use Rattle.drop_core.specs.declared.phase.DropPhase.TheVariants.{Take}
@@ -17,7 +17,6 @@ use Rattle.drop_core.specs.declared.take_phase.DropTake.{DropTake}
 use Rattle.drop_core.specs.declared.take_phase.DropTake.TheVariants.{HeadC, SeeRes, SeeCom, SeeAll, Reserve, Read, Verify, NextCom, Jump, OpenR, RaiseC}
 use Rattle.drop_core.specs.Types.{View}
 use Rattle.drop_core.specs.TakeSteps.{live_block}
-use Rattle.drop_core.specs.Words.{reserved_word}
 use Rattle.drop_core.proofs.Loads.{committed_from, knows_take, pick_equal, pick_less}
 use Rattle.drop_core.proofs.Lone.{empty_is, full_is, last_is, live_is, next_at, ok_is}
 use Rattle.drop_core.proofs.LoneSteps.{IsHere, Leads, StepLeads, accepted_of, calm_of, head_of, loaded, made_of, open_of}

@@ -11,7 +11,7 @@ use Rattle.cursor_word.specs.declared.cursor.Cursor.{Cursor}
 use Rattle.cursor_word.proofs.Blocks.{latest, latest_is, same_block}
 use Rattle.rail.specs.Items.{places}
 use Rattle.machine.proofs.Lists.{one_le_sum}
-use Rattle.put_side.specs.Cursors.{allocated_word, committed_word, place, Front}
+use Rattle.put_side.specs.Cursors.{Front, allocated_word, committed_word, place, reserved_word}
 use Rattle.put_side.specs.Counts.{claims, makes, one_at, times}
 use Rattle.put_side.specs.PutTable.{stage_of}
 use Rattle.put_side.proofs.Facts.{allocated_to, physical, place_next}
@@ -21,7 +21,7 @@ use Rattle.drop_core.specs.declared.phase.DropPhase.TheVariants.{Take}
 use Rattle.drop_core.specs.declared.take_phase.DropTake.TheVariants.{NextCom, SeeCom, Verify}
 use Rattle.drop_core.specs.Types.{View}
 use Rattle.drop_core.specs.Stage.{stage}
-use Rattle.drop_core.specs.Words.{IsGone, IsPassed, cursors, reserved_word}
+use Rattle.drop_core.specs.Words.{IsGone, IsPassed, cursors}
 use Rattle.drop_core.specs.Counts.{fetches, reading}
 use Rattle.drop_core.specs.Sound.{IsSoundAt}
 use Rattle.drop_core.specs.Alone.{IsBehind}

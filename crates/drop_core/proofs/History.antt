@@ -27,7 +27,7 @@ use Rattle.machine.proofs.Runs.{moment_total, run_next, stepped}
 use Rattle.machine.proofs.Turns.{begun_made, total_same}
 use Rattle.put_side.specs.Counts.{one_at, times}
 use Rattle.put_side.specs.PutTable.{IsShared}
-use Rattle.put_side.specs.Cursors.{put_cursors}
+use Rattle.put_side.specs.Cursors.{put_cursors, reserved_word}
 use Rattle.put_side.specs.PutTable.{stage_of}
 use Rattle.put_side.proofs.Commits.{one_apart}
 use Rattle.put_side.proofs.Moves.{IsMovedByPuts, after_op, moves_by}
@@ -41,7 +41,7 @@ use Rattle.drop_core.specs.Types.{After, MachineState, View}
 use Rattle.drop_core.specs.PutSteps.{after}
 use Rattle.drop_core.specs.Steps.{table}
 use Rattle.drop_core.specs.Stage.{stage}
-use Rattle.drop_core.specs.Words.{cursors, reserved_word}
+use Rattle.drop_core.specs.Words.{cursors}
 use Rattle.drop_core.specs.Counts.{takes}
 use Rattle.drop_core.specs.Sound.{IsSound, IsSoundAt}
 use Rattle.drop_core.specs.Rest.{next_place, place_answered, places_answered}

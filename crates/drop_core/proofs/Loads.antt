@@ -18,7 +18,7 @@ use Rattle.rail.specs.declared.answer.Why.TheVariants as why
 use Rattle.machine.specs.declared.op.After.TheVariants.{Next, Done}
 use Rattle.machine.specs.Steps.{phase_after, seen, taken_after, view_after, words_after}
 use Rattle.machine.proofs.Lists.{one_le_sum}
-use Rattle.put_side.specs.Cursors.{PutCursors, committed_word, place, put_cursors, Front}
+use Rattle.put_side.specs.Cursors.{Front, PutCursors, committed_word, place, put_cursors, reserved_word}
 use Rattle.put_side.specs.Stages as place
 use Rattle.put_side.specs.Stages.{PutStage, held}
 use Rattle.put_side.specs.Counts.{claims, makes, one_at, sum_below, times}
@@ -38,7 +38,7 @@ use Rattle.drop_core.specs.PutSteps.{after, older_committed, older_or_not}
 use Rattle.drop_core.specs.TakeSteps.{IsTurn, after_take, is_same, moved_on}
 use Rattle.drop_core.specs.Steps.{table}
 use Rattle.drop_core.specs.Stage.{stage}
-use Rattle.drop_core.specs.Words.{Cursors, IsGone, IsPassed, cursors, reserved_word}
+use Rattle.drop_core.specs.Words.{Cursors, IsGone, IsPassed, cursors}
 use Rattle.drop_core.specs.Counts.{fetches, raises_consumer, reading, reading_in}
 use Rattle.drop_core.specs.Sound.{AreBelow, DropKnows, IsFound, IsSoundAt, TakeKnows, TakeTurn}
 use Rattle.drop_core.proofs.PutSteps.{puts}

@@ -12,7 +12,7 @@ use Rattle.rail.specs.declared.answer.Take.TheVariants as take
 use Rattle.rail.specs.Items.{places}
 use Rattle.rail.specs.Sequential.{drop_next, drop_take}
 use Rattle.machine.specs.Invariant.{made_count, made_total}
-use Rattle.put_side.specs.Cursors.{allocated_word, committed_word, place, Front}
+use Rattle.put_side.specs.Cursors.{Front, allocated_word, committed_word, place, reserved_word}
 use Rattle.put_side.specs.Counts.{claim_count, claims, makes, one_at, one_below, sum_below, times}
 use Rattle.put_side.specs.Manned.{enters, in_all, opens_allocated, raises_producer}
 use Rattle.put_side.specs.PutTable.{stage_in, stage_of}
@@ -23,7 +23,7 @@ use Rattle.put_side.proofs.Sums.{none_from, one_in, sum_none, upto_cut}
 use Rattle.drop_core.specs.declared.phase.DropPhase.{DropPhase}
 use Rattle.drop_core.specs.Types.{View}
 use Rattle.drop_core.specs.Stage.{stage}
-use Rattle.drop_core.specs.Words.{IsGone, cursors, reserved_word}
+use Rattle.drop_core.specs.Words.{IsGone, cursors}
 use Rattle.drop_core.specs.Counts.{fetches, raises_consumer, reading, takes}
 use Rattle.drop_core.specs.Sound.{IsSoundAt}
 use Rattle.drop_core.specs.Alone.{IsNext, OthersRest}

@@ -14,12 +14,13 @@ use Rattle.drop_core.specs.Types.{View}
 use Rattle.drop_core.specs.Stage.{stage}
 use Rattle.drop_core.specs.Counts.{reading}
 use Rattle.drop_core.specs.Sound.{IsSound}
-use Rattle.drop_core.specs.Laws.{MadeRises, PlacesAreDense, TakenIsMade, TakenOnce, TakenRises, WordsAreSmall}
+use Rattle.put_side.specs.Laws.{MadeRises, PlacesAreDense, TakenIsMade, TakenRises, WordsAreSmall}
+use Rattle.drop_core.specs.Laws.{TakenOnce}
 use Rattle.put_side.proofs.Few.{last_small}
 use Rattle.put_side.proofs.Draws.{offset_small}
 use Rattle.drop_core.proofs.Verifies.{head_opened}
 
-pub dense : (g : Grid) (w : MachineState DropPhase) → IsSound g w.words w.views → PlacesAreDense g w.views
+pub dense : (g : Grid) (w : MachineState DropPhase) → IsSound g w.words w.views → PlacesAreDense stage g w.views
 dense g w s = record { count = s.front.next; once = s.at.puts.places.counts.once }
 
 pub made_rises : (g : Grid) (w : MachineState DropPhase) → IsSound g w.words w.views → MadeRises w.views

@@ -11,7 +11,7 @@ use Rattle.cursor_word.specs.declared.cursor.Cursor.{Cursor}
 use Rattle.cursor_word.proofs.Blocks.{same_block}
 use Rattle.rail.specs.Items.{IsRising}
 use Rattle.machine.specs.Steps.{view_after, words_after}
-use Rattle.put_side.specs.Cursors.{place, Front}
+use Rattle.put_side.specs.Cursors.{Front, place, reserved_word}
 use Rattle.put_side.specs.Counts.{times}
 use Rattle.put_side.specs.PutTable.{stage_in}
 use Rattle.put_side.proofs.Sums.{sum_same}
@@ -20,7 +20,7 @@ use Rattle.drop_core.specs.declared.take_phase.DropTake.TheVariants.{OpenR, Rais
 use Rattle.drop_core.specs.Types.{View}
 use Rattle.drop_core.specs.Steps.{table}
 use Rattle.drop_core.specs.Stage.{stage}
-use Rattle.drop_core.specs.Words.{IsGone, cursors, reserved_word}
+use Rattle.drop_core.specs.Words.{IsGone, cursors}
 use Rattle.drop_core.specs.Counts.{fetched, fetches, raises_consumer, raising, reading}
 use Rattle.drop_core.specs.Sound.{AreBelow, IsSoundAt}
 use Rattle.drop_core.proofs.Frames.{after_step, attended_stays, below_more, passed_later}

@@ -15,7 +15,7 @@ use Rattle.rail.specs.declared.answer.Take.TheVariants as take
 use Rattle.rail.specs.declared.answer.Why.TheVariants as why
 use Rattle.machine.specs.declared.op.After.TheVariants.{Next, Done}
 use Rattle.machine.specs.Steps.{finds}
-use Rattle.put_side.specs.Cursors.{allocated_word, committed_word, place, Front}
+use Rattle.put_side.specs.Cursors.{Front, allocated_word, committed_word, place, reserved_word}
 use Rattle.put_side.specs.Counts.{claims, makes}
 use Rattle.put_side.specs.Stages as place
 use Rattle.put_side.specs.Places as puts
@@ -33,7 +33,6 @@ use Rattle.drop_core.specs.PutSteps.{after, filled, older_committed}
 use Rattle.drop_core.specs.TakeSteps.{in_first, is_same}
 use Rattle.drop_core.specs.Steps.{table}
 use Rattle.drop_core.specs.Stage.{stage}
-use Rattle.drop_core.specs.Words.{reserved_word}
 use Rattle.drop_core.specs.Sound.{IsAhead, IsFound, IsSoundAt}
 use Rattle.drop_core.specs.Words.{cursors}
 use Rattle.drop_core.specs.Moments.{EmptyAt, OverrunAt}

@@ -13,7 +13,7 @@ use Rattle.rail.specs.Items.{IsRising, places}
 use Rattle.machine.specs.declared.op.After.TheVariants.{Next}
 use Rattle.machine.specs.Steps.{view_after, words_after}
 use Rattle.machine.proofs.Lists.{sum_set}
-use Rattle.put_side.specs.Cursors.{place, Front}
+use Rattle.put_side.specs.Cursors.{Front, place, reserved_word}
 use Rattle.put_side.specs.Counts.{makes, one_at, times}
 use Rattle.put_side.specs.PutTable.{stage_in}
 use Rattle.put_side.proofs.Sums.{rising_push, times_push}
@@ -24,7 +24,7 @@ use Rattle.drop_core.specs.declared.take_phase.DropTake.TheVariants.{Reserve, Re
 use Rattle.drop_core.specs.Types.{View}
 use Rattle.drop_core.specs.Steps.{table}
 use Rattle.drop_core.specs.Stage.{stage}
-use Rattle.drop_core.specs.Words.{IsGone, cursors, reserved_word}
+use Rattle.drop_core.specs.Words.{IsGone, cursors}
 use Rattle.drop_core.specs.Counts.{fetched, fetches, raises_consumer, reading, reading_in}
 use Rattle.drop_core.specs.Sound.{AreBelow, IsSoundAt}
 use Rattle.drop_core.proofs.Frames.{after_step, attended_stays, passed_later}

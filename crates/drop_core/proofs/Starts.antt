@@ -11,7 +11,7 @@ use Rattle.machine.specs.declared.event.Start.{Start}
 use Rattle.machine.specs.declared.event.Start.TheVariants as start
 use Rattle.machine.specs.Steps.{IsWide, begun, resting, start_words}
 use Rattle.machine.proofs.Lists.{get_replicate, set_again}
-use Rattle.put_side.specs.Cursors.{place, put_cursors, Front}
+use Rattle.put_side.specs.Cursors.{Front, place, put_cursors, reserved_word}
 use Rattle.put_side.specs.Stages as place
 use Rattle.put_side.specs.PutTable.{stage_in, stage_of}
 use Rattle.put_side.proofs.Begins.{IsStart, begins_away, begins_put, start_front, start_manned, start_side, start_word_is, starts_at}
@@ -23,7 +23,7 @@ use Rattle.drop_core.specs.declared.take_phase.DropTake.{DropTake}
 use Rattle.drop_core.specs.Types.{View}
 use Rattle.drop_core.specs.Steps.{table}
 use Rattle.drop_core.specs.Stage.{stage}
-use Rattle.drop_core.specs.Words.{cursors, reserved_word}
+use Rattle.drop_core.specs.Words.{cursors}
 use Rattle.drop_core.specs.Counts.{fetches, raises_consumer, reading}
 use Rattle.drop_core.specs.Sound.{IsSound, IsSoundAt, TakeFits}
 use Rattle.drop_core.proofs.Frames.{quiet}

@@ -6,7 +6,7 @@ use Rattle.std.proofs.lemmas.Nat.{mod_below}
 use Rattle.cursor_word.specs.Shape.{Grid, IsWithinLimits}
 use Rattle.rail.specs.Items.{places}
 use Rattle.machine.specs.Steps.{answer_after, made_after, phase_after, taken_after}
-use Rattle.put_side.specs.Cursors.{Front, put_cursors}
+use Rattle.put_side.specs.Cursors.{Front, put_cursors, reserved_word}
 use Rattle.put_side.specs.Stages as place
 use Rattle.put_side.specs.PutSide.{PutSide}
 use Rattle.put_side.specs.PutTable.{stage_of}
@@ -15,7 +15,7 @@ use Rattle.put_side.proofs.Owns.{KeepsPutWords, keeps_own, manned_own}
 use Rattle.put_side.specs.Manned.{IsManned}
 use Rattle.drop_core.specs.Types.{After, View}
 use Rattle.drop_core.specs.Stage.{stage}
-use Rattle.drop_core.specs.Words.{cursors, reserved_word}
+use Rattle.drop_core.specs.Words.{cursors}
 use Rattle.drop_core.specs.Counts.{fetched, reading}
 use Rattle.drop_core.specs.Sound.{IsSoundAt}
 use Rattle.put_side.proofs.Raises.{raised_to}

@@ -4,12 +4,9 @@ use Rattle.std.specs.Prelude.{◌≡◌, ℕ, ◌+◌, ◌*◌, ◌/◌, ◌%◌
 use Rattle.std.specs.List.{sum_by}
 use Rattle.cursor_word.specs.Shape.{Grid}
 use Rattle.cursor_word.specs.Cursor.{offset_span}
-use Rattle.put_side.specs.Cursors.{PutCursors, place, put_cursors}
+use Rattle.put_side.specs.Cursors.{PutCursors, place, put_cursors, reserved_word}
 use Rattle.put_side.specs.Counts.{makes}
 use Rattle.drop_core.specs.Types.{View}
-
-abbrev pub reserved_word : Grid → List ℕ → ℕ → ℕ
-reserved_word shape words block = slice_index words (4 + 4 * (block % shape.blocks))
 
 -- the cursors that puts move, the consumer head, and each block number's reserved cursor
 pub record Cursors : Type 0 where

@@ -9,7 +9,9 @@ ghost use Rattle.machine.specs.Steps.{AllRest, Suits};
 ghost use Rattle.machine.specs.Moments.{moment};
 ghost use Rattle.drop_core.specs.Gathered.{IsSettled};
 ghost use Rattle.cursor_word.specs.Cursor.{most_puts};
-ghost use Rattle.drop_core.specs.Laws.{MadeRises, PlacesAreDense, TakenIsMade, TakenOnce, TakenRises, WordsAreSmall, most_steps, steps_of_phase};
+ghost use Rattle.drop_core.specs.Laws.{TakenOnce, most_steps, steps_of_phase};
+ghost use Rattle.drop_core.specs.Stage.{stage};
+ghost use Rattle.put_side.specs.Laws.{MadeRises, PlacesAreDense, TakenIsMade, TakenRises, WordsAreSmall};
 
 use cursor_word::Shape;
 use machine::Event;
@@ -19,7 +21,8 @@ use machine::Event;
 pub fn drop_law_accepted(shape: &Shape, events: &[Event])
     requires suits { AllByRecursion (Suits table shape.now) events.now }
     requires few { length events.now < most_puts shape.now }
-    ensures dense { (n : ℕ) → PlacesAreDense shape.now (moment table shape.now events.now n).views }
+    ensures dense { (n : ℕ)
+        → PlacesAreDense stage shape.now (moment table shape.now events.now n).views }
     ensures rising { (n : ℕ) → MadeRises (moment table shape.now events.now n).views }
     ensures small { (n : ℕ) → WordsAreSmall shape.now (moment table shape.now events.now n).words }
 {
@@ -49,12 +52,13 @@ pub fn drop_law_steps(shape: &Shape, events: &[Event])
     ensures bound { (n seat : ℕ) (view : View)
         → slice_get (moment table shape.now events.now n).views seat ≡ Some view
         → length view.trail ≤ most_steps shape.now view.phase view.answer }
-    ensures rank { (n seat : ℕ) (view : View) (p : DropPhase)
+    ensures rank { (n seat : ℕ) (view : View) (phase : DropPhase)
         → slice_get (moment table shape.now events.now n).views seat ≡ Some view
-        → view.phase ≡ Some p
-        → length view.trail + rank shape.now p ≤ steps_of_phase shape.now p }
-    ensures falls { (p next : DropPhase) (old : ℕ) → IsInRange shape.now p
-        → after shape.now p old ≡ Next next → rank shape.now next < rank shape.now p }
+        → view.phase ≡ Some phase
+        → length view.trail + rank shape.now phase ≤ steps_of_phase shape.now phase }
+    ensures falls { (phase next : DropPhase) (found : ℕ) → IsInRange shape.now phase
+        → after shape.now phase found ≡ Next next
+        → rank shape.now next < rank shape.now phase }
 {
     let _blocks = shape.blocks();
 }

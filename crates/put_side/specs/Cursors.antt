@@ -11,6 +11,13 @@ allocated_word shape words block = slice_index words (2 + 4 * (block % shape.blo
 abbrev pub committed_word : Grid → List ℕ → ℕ → ℕ
 committed_word shape words block = slice_index words (3 + 4 * (block % shape.blocks))
 
+-- the same of the two cursors that takes move
+abbrev pub reserved_word : Grid → List ℕ → ℕ → ℕ
+reserved_word shape words block = slice_index words (4 + 4 * (block % shape.blocks))
+
+abbrev pub consumed_word : Grid → List ℕ → ℕ → ℕ
+consumed_word shape words block = slice_index words (5 + 4 * (block % shape.blocks))
+
 -- the producer head, and the two cursors of each block number's physical block
 pub record PutCursors : Type 0 where
   pub producer : ℕ

@@ -7,3 +7,4 @@ pub mod PutSide
 pub mod PutTable
 pub mod Manned
 pub mod Gathered
+pub mod Laws

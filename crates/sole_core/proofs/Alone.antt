@@ -13,7 +13,7 @@ use Rattle.cursor_word.specs.declared.cursor.Cursor.{Cursor}
 use Rattle.machine.specs.declared.op.After.TheVariants.{Next, Done}
 use Rattle.machine.specs.Steps.{words_after}
 use Rattle.rail.specs.Sequential.{IsFull}
-use Rattle.put_side.specs.Cursors.{Front, allocated_word, committed_word, place}
+use Rattle.put_side.specs.Cursors.{Front, allocated_word, committed_word, consumed_word, place}
 use Rattle.put_side.specs.Stages as stages
 use Rattle.put_side.specs.PutTable.{stage_in}
 use Rattle.put_side.proofs.Sums.{by_test_le}
@@ -25,7 +25,6 @@ use Rattle.sole_core.specs.Types.{After, View}
 use Rattle.sole_core.specs.PutSteps.{filled, older_consumed}
 use Rattle.sole_core.specs.Table.{table}
 use Rattle.sole_core.specs.Stage.{stage, stage_of}
-use Rattle.sole_core.specs.Cursors.{consumed_word}
 use Rattle.sole_core.specs.Sound.{IsSoundAt}
 use Rattle.sole_core.proofs.Outcomes.{full_at}
 use Rattle.sole_core.proofs.Lone.{not_consumed, reused_taken}

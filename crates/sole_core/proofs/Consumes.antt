@@ -16,7 +16,7 @@ use Rattle.rail.specs.Items.{placed, places}
 use Rattle.rail.specs.Outcome.{numbers_below}
 use Rattle.machine.specs.Steps.{view_after, words_after}
 use Rattle.machine.proofs.Lists.{get_set}
-use Rattle.put_side.specs.Cursors.{Front, put_cursors}
+use Rattle.put_side.specs.Cursors.{Front, consumed_word, put_cursors}
 use Rattle.put_side.specs.Entries.{IsMade}
 use Rattle.put_side.specs.Manned as put_work
 use Rattle.put_side.specs.Stages as stages
@@ -31,7 +31,7 @@ use Rattle.sole_core.specs.declared.take_phase.SoleTake.TheVariants.{Consume}
 use Rattle.sole_core.specs.Types.{View}
 use Rattle.sole_core.specs.Table.{consumer, table}
 use Rattle.sole_core.specs.Stage.{stage, stage_of}
-use Rattle.sole_core.specs.Cursors.{TakeWords, consumed_word}
+use Rattle.sole_core.specs.Cursors.{TakeWords}
 use Rattle.sole_core.specs.Sound.{IsSoundAt, TakeFits, scene}
 use Rattle.sole_core.proofs.Facts.{few_made, one_on}
 use Rattle.sole_core.proofs.Frames.{IsLater, fits_later, is_consumer}

@@ -8,7 +8,7 @@ use Rattle.rail.specs.declared.entry.Placed.{Placed}
 use Rattle.rail.specs.Items.{places}
 use Rattle.rail.specs.Outcome.{numbers_below}
 use Rattle.machine.proofs.Lists.{get_set}
-use Rattle.put_side.specs.Cursors.{Front, committed_word}
+use Rattle.put_side.specs.Cursors.{Front, committed_word, consumed_word}
 use Rattle.put_side.specs.PutSide.{PutSide}
 use Rattle.put_side.proofs.Made.{KeepsMade}
 use Rattle.sole_core.specs.declared.phase.SolePhase.{SolePhase}
@@ -18,7 +18,7 @@ use Rattle.sole_core.specs.declared.take_phase.SoleTake.TheVariants.{Com, All, W
 use Rattle.sole_core.specs.Types.{View}
 use Rattle.sole_core.specs.Stage.{stage_of}
 use Rattle.sole_core.specs.Table.{consumer}
-use Rattle.sole_core.specs.Cursors.{IsUnmoved, consumed_word}
+use Rattle.sole_core.specs.Cursors.{IsUnmoved}
 use Rattle.sole_core.specs.Sound.{IsSoundAt, Knows, OnlyPuts, TakeFits, TakeKnows, scene}
 
 -- later words and views: the cursors that seats remember only grow, and so does what is made

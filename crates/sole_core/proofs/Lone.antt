@@ -14,7 +14,7 @@ use Rattle.rail.specs.Items.{places}
 use Rattle.machine.specs.Steps.{AllRest}
 use Rattle.machine.specs.Invariant.{made_total}
 use Rattle.cursor_word.proofs.Blocks.{shifted}
-use Rattle.put_side.specs.Cursors.{Front, allocated_word, committed_word, place, put_cursors}
+use Rattle.put_side.specs.Cursors.{Front, allocated_word, committed_word, consumed_word, place, put_cursors}
 use Rattle.put_side.specs.Counts.{makes, one_at, one_below, sum_below, times}
 use Rattle.put_side.specs.Manned as put_work
 use Rattle.put_side.specs.PutTable.{stage_in}
@@ -24,7 +24,6 @@ use Rattle.sole_core.specs.declared.phase.SolePhase.{SolePhase}
 use Rattle.sole_core.specs.Types.{View}
 use Rattle.sole_core.specs.PutSteps.{older_consumed}
 use Rattle.sole_core.specs.Stage.{stage, stage_of}
-use Rattle.sole_core.specs.Cursors.{consumed_word}
 use Rattle.sole_core.specs.Counts.{claims}
 use Rattle.put_side.specs.Counts as counts
 use Rattle.put_side.specs.Stages as stages

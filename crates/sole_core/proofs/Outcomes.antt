@@ -19,7 +19,7 @@ use Rattle.rail.specs.declared.answer.Answer.TheVariants as answer
 use Rattle.machine.specs.declared.op.After.TheVariants.{Next, Done}
 use Rattle.machine.specs.Steps.{finds}
 use Rattle.machine.proofs.Lists.{one_le_sum}
-use Rattle.put_side.specs.Cursors.{Front, allocated_word, committed_word, place, put_cursors}
+use Rattle.put_side.specs.Cursors.{Front, allocated_word, committed_word, consumed_word, place, put_cursors}
 use Rattle.put_side.specs.Counts.{makes}
 use Rattle.put_side.specs.Places.{IsFilled, IsTurn, PutKnows}
 use Rattle.put_side.specs.Stages as stages
@@ -39,7 +39,6 @@ use Rattle.sole_core.specs.Causes.{Differ}
 use Rattle.sole_core.specs.PutSteps.{after, filled, older_consumed}
 use Rattle.sole_core.specs.Table.{consumer, table}
 use Rattle.sole_core.specs.Stage.{stage, stage_of}
-use Rattle.sole_core.specs.Cursors.{consumed_word}
 use Rattle.sole_core.specs.Counts.{takes}
 use Rattle.sole_core.specs.Sound.{IsSound, IsSoundAt, cursor_in}
 use Rattle.sole_core.proofs.Facts.{made_once}

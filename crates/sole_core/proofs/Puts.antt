@@ -10,7 +10,7 @@ use Rattle.rail.specs.declared.entry.Placed.{Placed}
 use Rattle.rail.specs.declared.answer.Answer.TheVariants as answer
 use Rattle.machine.specs.declared.op.After.TheVariants.{Next, Done}
 use Rattle.machine.specs.Steps.{finds, phase_after, taken_after, view_after, words_after}
-use Rattle.put_side.specs.Cursors.{Front, place, put_cursors}
+use Rattle.put_side.specs.Cursors.{Front, consumed_word, place, put_cursors}
 use Rattle.put_side.specs.Counts.{makes}
 use Rattle.put_side.specs.Stages as stages
 use Rattle.put_side.specs.PutTable.{IsShared, MayOpen}
@@ -26,7 +26,6 @@ use Rattle.sole_core.specs.Types.{After, View}
 use Rattle.sole_core.specs.PutSteps.{after, older_consumed}
 use Rattle.sole_core.specs.Table.{table}
 use Rattle.sole_core.specs.Stage.{stage, stage_of}
-use Rattle.sole_core.specs.Cursors.{consumed_word}
 use Rattle.sole_core.specs.Sound.{IsSoundAt, Knows, Scene, scene}
 use Rattle.sole_core.proofs.PutSteps.{puts}
 use Rattle.sole_core.proofs.Facts.{behind_next, each_once}

@@ -14,7 +14,8 @@ use Rattle.put_side.proofs.Sums.{rising_front}
 use Rattle.sole_core.specs.Types.{MachineState}
 use Rattle.sole_core.specs.Stage.{stage}
 use Rattle.sole_core.specs.Table.{table}
-use Rattle.sole_core.specs.Laws.{MadeRises, NoneElseTakes, PlacesAreDense, TakenInOrder, TakenIsMade}
+use Rattle.put_side.specs.Laws.{MadeRises, PlacesAreDense, TakenIsMade}
+use Rattle.sole_core.specs.Laws.{NoneElseTakes, TakenInOrder}
 use Rattle.sole_core.specs.Sound.{IsSound}
 use Rattle.sole_core.proofs.Keeping.{keeps}
 use Rattle.sole_core.proofs.Starts.{taken_long}
@@ -24,7 +25,7 @@ module _ (g : Grid) (events : List Event) (limits : IsWithinLimits g) (suits : A
   moment_sound n = moment_holds table IsSound keeps g limits events n suits few
 
 module _ (g : Grid) (w : MachineState) (k : IsSound g w.words w.views) where
-  pub dense : PlacesAreDense g w.views
+  pub dense : PlacesAreDense stage g w.views
   dense = record { count = k.front.next; once = k.sound.puts.places.counts.once }
 
   pub made_rises : MadeRises w.views

@@ -17,7 +17,7 @@ use Rattle.machine.specs.Steps.{IsWide, begun, resting, start_words}
 use Rattle.machine.specs.declared.event.Start.{Start}
 use Rattle.machine.specs.declared.event.Start.TheVariants as start
 use Rattle.machine.proofs.Lists.{get_replicate, set_again}
-use Rattle.put_side.specs.Cursors.{Front, put_cursors}
+use Rattle.put_side.specs.Cursors.{Front, consumed_word, put_cursors}
 use Rattle.put_side.specs.Manned as put_work
 use Rattle.put_side.specs.PutSide.{PutSide}
 use Rattle.put_side.specs.Stages as stages
@@ -32,7 +32,7 @@ use Rattle.sole_core.specs.declared.take_phase.SoleTake.{SoleTake}
 use Rattle.sole_core.specs.Types.{View}
 use Rattle.sole_core.specs.Table.{MayBegin, consumer, table}
 use Rattle.sole_core.specs.Stage.{stage, stage_of}
-use Rattle.sole_core.specs.Cursors.{TakeWords, consumed_word}
+use Rattle.sole_core.specs.Cursors.{TakeWords}
 use Rattle.sole_core.specs.Sound.{IsSound, IsSoundAt, Knows, OnlyPuts, TakeFits, scene}
 use Rattle.sole_core.proofs.Frames.{quiet}
 use Rattle.sole_core.proofs.Loads.{same_words}

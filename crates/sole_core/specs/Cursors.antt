@@ -4,13 +4,7 @@ use Rattle.std.specs.Prelude.{◌≡◌, ℕ, ◌+◌, ◌*◌, ◌%◌, ◌<◌
 use Rattle.cursor_word.specs.Shape.{Grid}
 use Rattle.cursor_word.specs.Cursor.{cursor_of, offset_span, packed}
 use Rattle.machine.specs.Steps.{start_words}
-
--- the reserved and the consumed cursor's word of a block
-abbrev pub reserved_word : Grid → List ℕ → ℕ → ℕ
-reserved_word shape words block = slice_index words (4 + 4 * (block % shape.blocks))
-
-abbrev pub consumed_word : Grid → List ℕ → ℕ → ℕ
-consumed_word shape words block = slice_index words (5 + 4 * (block % shape.blocks))
+use Rattle.put_side.specs.Cursors.{consumed_word, reserved_word}
 
 -- the consumer head and the reserved cursors stay as they start
 pub record IsUnmoved (shape : Grid) (words : List ℕ) : Type 0 where

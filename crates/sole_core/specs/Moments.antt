@@ -6,9 +6,8 @@ use Rattle.cursor_word.specs.Cursor.{IsBefore, cursor, first_of, unpacked}
 use Rattle.cursor_word.specs.declared.cursor.Cursor.{Cursor}
 use Rattle.sole_core.specs.Types.{MachineState}
 use Rattle.sole_core.specs.Counts.{claims, takes}
-use Rattle.sole_core.specs.Cursors.{consumed_word}
 use Rattle.put_side.specs.Counts.{makes}
-use Rattle.put_side.specs.Cursors.{committed_word}
+use Rattle.put_side.specs.Cursors.{committed_word, consumed_word}
 
 -- the queue is full up to block k, as x shows: all places up to the end of block k are made or
 -- held, block k + 1 is not opened, and x is the consumed cursor in its physical block, where an

@@ -7,7 +7,7 @@ use Rattle.cursor_word.specs.declared.cursor.Cursor.{Cursor}
 use Rattle.rail.specs.Items.{placed, places}
 use Rattle.rail.specs.Outcome.{numbers_below}
 use Rattle.rail.specs.declared.entry.Placed.{Placed}
-use Rattle.put_side.specs.Cursors.{Front, committed_word, put_cursors}
+use Rattle.put_side.specs.Cursors.{Front, committed_word, consumed_word, put_cursors}
 use Rattle.put_side.specs.Counts.{makes}
 use Rattle.put_side.specs.Entries.{IsMade}
 use Rattle.put_side.specs.PutSide.{PutSide}
@@ -20,7 +20,7 @@ use Rattle.sole_core.specs.Types.{View}
 use Rattle.sole_core.specs.PutSteps.{older_consumed}
 use Rattle.sole_core.specs.Stage.{stage_of}
 use Rattle.sole_core.specs.Table.{consumer}
-use Rattle.sole_core.specs.Cursors.{IsUnmoved, TakeWords, consumed_word}
+use Rattle.sole_core.specs.Cursors.{IsUnmoved, TakeWords}
 
 -- what a seat may remember something of: how many places are taken, the consumed and the committed
 -- cursors, and what all seats have made

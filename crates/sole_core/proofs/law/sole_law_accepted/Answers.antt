@@ -2,7 +2,7 @@ use Rattle.machine.proofs.Runs.{moment_total}
 use Rattle.sole_core.specs.Table.{table}
 use Rattle.sole_core.proofs.Reached.{dense, made_rises}
 use Rattle.sole_core.proofs.Reached.{moment_sound}
-use Rattle.sole_core.proofs.Small.{words_small}
+use Rattle.sole_core.proofs.Small.{consumed_small, words_small}
 use Rattle.sole_core.proofs.law.sole_law_accepted.Goals as goal
 
 pub returns-clause-dense : goal.returns-clause-dense
@@ -13,6 +13,9 @@ returns-clause-rising c = λ n. made_rises _ _ (moment_sound c.args.shape.now c.
 
 pub returns-clause-small : goal.returns-clause-small
 returns-clause-small c = λ n. words_small _ _ _ c.blocks-blocks.ensures.limits (moment_sound c.args.shape.now c.args.events.now c.blocks-blocks.ensures.limits c.requires.suits c.requires.few n) (moment_total table c.args.shape.now c.args.events.now n c.requires.few)
+
+pub returns-clause-consumed : goal.returns-clause-consumed
+returns-clause-consumed c = λ n. consumed_small _ _ _ c.blocks-blocks.ensures.limits (moment_sound c.args.shape.now c.args.events.now c.blocks-blocks.ensures.limits c.requires.suits c.requires.few n) (moment_total table c.args.shape.now c.args.events.now n c.requires.few)
 
 pub returns-clause-unmoved : goal.returns-clause-unmoved
 returns-clause-unmoved c = λ n. (moment_sound c.args.shape.now c.args.events.now c.blocks-blocks.ensures.limits c.requires.suits c.requires.few n).sound.unmoved
