@@ -1,8 +1,9 @@
--- The words of the generated text, and its length.
-use Rattle.std.proofs.Common.{◌≡◌, ℕ, ◌+◌, ◌*◌, ◌%◌, ◌<◌, ◌≤◌, Bool, true, false, List, [], ◌∷◌, ◌++◌, length, map, filter, refl, sym, ap, ◌∙◌, arith, length-append, append_assoc, ap₂, append-nil}
-use Rattle.std.specs.Prelude.{flat_map, ◌==◌, ◌||◌, if◌then◌else◌}
+-- The words of the generated text, its length, and that its words come again.
+use Rattle.std.proofs.Common.{◌≡◌, ℕ, ◌+◌, ◌*◌, ◌/◌, ◌%◌, ◌<◌, ◌≤◌, Bool, true, false, List, [], ◌∷◌, ◌++◌, length, map, filter, refl, sym, ap, ◌∙◌, arith, length-append, append_assoc, ap₂, append-nil, zero, suc, min, add-zero}
+use Rattle.std.specs.Prelude.{codes, decimal, flat_map, ◌==◌, ◌||◌, if◌then◌else◌}
 use Rattle.std.specs.List.{All, range_with_len}
 use Rattle.std.specs.Str.{all_ascii_digits}
+use Rattle.std.proofs.lemmas.Bool.Decides.{nat_tests}
 use Rattle.std.proofs.lemmas.Fmt.{digits_decimal, length-decimal-le}
 use Rattle.std.proofs.lemmas.Grind.{flat_map-append}
 use Rattle.std.proofs.lemmas.List.Folds.{flat_map-map}
@@ -13,7 +14,7 @@ use Rattle.std.proofs.lemmas.Str.Parse.{numerals_by_value, tells_all_ascii_digit
 use Rattle.word_text.specs.Counts.{counts_of_all, total}
 use Rattle.word_text.specs.Words.{is_nonempty, is_separator, words_of}
 use Rattle.word_text.proofs.Occurrences.{total-counts_of_all}
-use Rattle.generated_words.specs.Generated.{byte_after, generated_text, word_and_byte, word_of}
+use Rattle.generated_words.specs.Generated.{byte_after, first_words, generated_text, word_and_byte, word_of}
 
 -- ---- what a word and the byte after it are
 
@@ -46,7 +47,7 @@ short_word n i =
 
 -- ---- the whole text
 
-one_word_more : (n i : ℕ) → flat_map (word_and_byte n) (range_with_len 0 (i + 1)) ≡ flat_map (word_and_byte n) (range_with_len 0 i) ++ word_and_byte n i
+one_word_more : (n i : ℕ) → first_words n (i + 1) ≡ first_words n i ++ word_and_byte n i
 one_word_more n i =
     let parts : List ℕ → List (List ℕ) = map (word_and_byte n) in
     let same : List ℕ → List ℕ = λ part. part in
@@ -56,7 +57,7 @@ one_word_more n i =
     ∙ ap₂ (λ (front back : List ℕ). front ++ back) (flat_map-map same (word_and_byte n) (range_with_len 0 i)) (append-nil (word_and_byte n i))
 
 -- what was pushed so far, and one word more
-pub pushed_more : (n i : ℕ) (old new : List ℕ) → old ≡ flat_map (word_and_byte n) (range_with_len 0 i) → new ≡ old ++ word_and_byte n i → new ≡ flat_map (word_and_byte n) (range_with_len 0 (i + 1))
+pub pushed_more : (n i : ℕ) (old new : List ℕ) → old ≡ first_words n i → new ≡ old ++ word_and_byte n i → new ≡ first_words n (i + 1)
 pushed_more n i old new before more =
     more ∙ ap (λ (bytes : List ℕ). bytes ++ word_and_byte n i) before ∙ sym (one_word_more n i)
 
@@ -87,9 +88,48 @@ small_parts n (i ∷ is) =
     let all = length-append (word_and_byte n i) (flat_map (word_and_byte n) is) in
     omega (arith, one, more, all)
 
-pub pushed_small : (n i : ℕ) (bytes : List ℕ) → bytes ≡ flat_map (word_and_byte n) (range_with_len 0 i) → i ≤ n → length bytes ≤ 5 * n
-pushed_small n i bytes are within =
-    let parts = small_parts n (range_with_len 0 i) in
-    let number = length-range_with_len 0 i in
-    let same = ap length are in
-    omega (arith, parts, number, same, within)
+pub small_text : (n : ℕ) → length (generated_text n) ≤ 5 * n
+small_text n =
+    let parts = small_parts n (range_with_len 0 n) in
+    let number = length-range_with_len 0 n in
+    omega (arith, parts, number)
+
+-- ---- the words come again after 1,000
+
+same_square : (n k i : ℕ) → ((k * 1000 + i) * (k * 1000 + i) + n) % 1000 ≡ (i * i + n) % 1000
+same_square n k i =
+    let whole : (k * 1000 + i) * (k * 1000 + i) ≡ 1000 * (1000 * (k * k) + 2 * (k * i)) + i * i = grind arith in
+    omega (arith, whole)
+
+same_byte : (n k i : ℕ) → i < 1000 → k < n / 1000 → byte_after n (k * 1000 + i) ≡ byte_after n i
+same_byte n k i short whole = grind (arith, nat_tests)
+
+same_word : (n k i : ℕ) → i < 1000 → k < n / 1000 → word_and_byte n (k * 1000 + i) ≡ word_and_byte n i
+same_word n k i short whole =
+    ap₂ (λ (digits byte : ℕ). codes "w" ++ decimal digits ++ byte ∷ []) (same_square n k i) (same_byte n k i short whole)
+
+words_again : (n k count : ℕ) → count ≤ 1000 → k < n / 1000 → first_words n (k * 1000 + count) ≡ first_words n (k * 1000) ++ first_words n count
+words_again n k zero short whole = rw add-zero (sym (append-nil (first_words n (k * 1000))))
+words_again n k (suc count) short whole =
+    let before = words_again n k count (omega arith) whole in
+    let word = same_word n k count (omega arith) whole in
+    let far = one_word_more n (k * 1000 + count) in
+    let near = one_word_more n count in
+    let joined = append_assoc (first_words n (k * 1000)) (first_words n count) (word_and_byte n count) in
+    let next : k * 1000 + suc count ≡ k * 1000 + count + 1 = omega arith in
+    let one : suc count ≡ count + 1 = omega arith in
+    ap (first_words n) next
+    ∙ far
+    ∙ ap₂ (λ (front back : List ℕ). front ++ back) before word
+    ∙ joined
+    ∙ ap (λ (back : List ℕ). first_words n (k * 1000) ++ back) (sym near ∙ ap (first_words n) (sym one))
+
+-- what was copied so far, and the first 1,000 words once more
+pub copied_more : (n k : ℕ) (period old new : List ℕ) → k < n / 1000 → period ≡ first_words n (min 1000 n) → old ≡ first_words n (k * 1000) → new ≡ old ++ period → new ≡ first_words n ((k + 1) * 1000)
+copied_more n k period old new whole made before more =
+    let all : min 1000 n ≡ 1000 = omega arith in
+    let next : k * 1000 + 1000 ≡ (k + 1) * 1000 = omega arith in
+    more
+    ∙ ap₂ (λ (front back : List ℕ). front ++ back) before (made ∙ ap (first_words n) all)
+    ∙ sym (words_again n k 1000 (omega arith) whole)
+    ∙ ap (first_words n) next

@@ -13,6 +13,9 @@ byte_after n i = if i + 1 == n || (i + 1) % 10 == 0 then 10 else 32
 abbrev pub word_and_byte : ℕ → ℕ → List ℕ
 word_and_byte n i = word_of n i ++ byte_after n i ∷ []
 
--- the words 0 to n - 1 in order, each with what stands after it
+-- of the text of n words the first so many in order, each with what stands after it
+abbrev pub first_words : ℕ → ℕ → List ℕ
+first_words n count = flat_map (word_and_byte n) (range_with_len 0 count)
+
 abbrev pub generated_text : ℕ → List ℕ
-generated_text n = flat_map (word_and_byte n) (range_with_len 0 n)
+generated_text n = first_words n n
