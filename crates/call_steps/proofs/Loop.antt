@@ -71,23 +71,23 @@ module _ {P V : Type 0} (t : Table P) (drops : Bool) (r : Rule P V) where
     left_falls g p n (Next q) is h = table.ranked.falls g p q n h is
     left_falls g p n (Done a) is h = let some = table.ranked.some_left g p h in omega arith
 
-    grid_in_call : (v : V) (s : Start) (ph : Option P) → r.Sits v → (r.view_of v).phase ≡ ph → r.grid_of (in_phase r v s ph) ≡ r.grid_of v
+    grid_in_call : (v : V) (s : Start) (ph : Option P) → r.Sits v s → (r.view_of v).phase ≡ ph → r.grid_of (in_phase r v s ph) ≡ r.grid_of v
     grid_in_call v s None sits rest = (laws.call_begins v s sits rest).1
     grid_in_call v s (Some p) sits here = refl
 
-    sits_in_call : (v : V) (s : Start) (ph : Option P) → r.Sits v → (r.view_of v).phase ≡ ph → r.Sits (in_phase r v s ph)
+    sits_in_call : (v : V) (s : Start) (ph : Option P) → r.Sits v s → (r.view_of v).phase ≡ ph → r.Sits (in_phase r v s ph) s
     sits_in_call v s None sits rest = (laws.call_begins v s sits rest).2
     sits_in_call v s (Some p) sits here = sits
 
-    made_in_call : (v : V) (s : Start) (ph : Option P) → r.Sits v → (r.view_of v).phase ≡ ph → (r.view_of (in_phase r v s ph)).made ≡ (r.view_of v).made
+    made_in_call : (v : V) (s : Start) (ph : Option P) → r.Sits v s → (r.view_of v).phase ≡ ph → (r.view_of (in_phase r v s ph)).made ≡ (r.view_of v).made
     made_in_call v s None sits rest = ap (λ (w : View P). w.made) (laws.call_begins v s sits rest).0 ∙ begun_made t (r.grid_of v) (r.view_of v) None s
     made_in_call v s (Some p) sits here = refl
 
     -- the view with which a call begins
-    begins_view : (v : V) (s : Start) → r.Sits v → (r.view_of v).phase ≡ None → r.view_of (in_call r v s) ≡ begun t (r.grid_of v) (r.view_of v) None s
+    begins_view : (v : V) (s : Start) → r.Sits v s → (r.view_of v).phase ≡ None → r.view_of (in_call r v s) ≡ begun t (r.grid_of v) (r.view_of v) None s
     begins_view v s sits rest = ap r.view_of (ap (in_phase r v s) rest) ∙ (laws.call_begins v s sits rest).0
 
-    begins_at : (c : Call P V) (entry : List ℕ) → r.grid_of c.before.view ≡ c.shape → r.Sits c.before.view → (r.view_of c.before.view).phase ≡ None → MayDo c.shape (r.view_of c.before.view) c.start → t.IsInRange c.shape c.first
+    begins_at : (c : Call P V) (entry : List ℕ) → r.grid_of c.before.view ≡ c.shape → r.Sits c.before.view c.start → (r.view_of c.before.view).phase ≡ None → MayDo c.shape (r.view_of c.before.view) c.start → t.IsInRange c.shape c.first
         → (let b = begun t c.shape (r.view_of c.before.view) None c.start in b.phase ≡ Some c.first → t.want c.shape c.first b.entry ≡ t.want c.shape c.first entry → b.trail ≡ [] → IsAt t drops r c entry c.before c.first)
     begins_at c entry grid sits rest may range here wants none =
         let u : in_call r c.before.view c.start ≡ r.begins c.before.view c.start = ap (in_phase r c.before.view c.start) rest in
@@ -132,14 +132,14 @@ module _ {P V : Type 0} (t : Table P) (drops : Bool) (r : Rule P V) where
         here_grid : r.grid_of here_view ≡ c.shape
         here_grid = grid_in_call now.view c.start (r.view_of now.view).phase i.sits refl ∙ i.grid
 
-        here_sits : r.Sits here_view
+        here_sits : r.Sits here_view c.start
         here_sits = sits_in_call now.view c.start (r.view_of now.view).phase i.sits refl
 
         pub grid_next : r.grid_of next.view ≡ c.shape
-        grid_next = ap r.grid_of moved_here.0 ∙ ((laws.phase_moves here_view p x here_sits).1 ∙ here_grid)
+        grid_next = ap r.grid_of moved_here.0 ∙ ((laws.phase_moves here_view c.start p x here_sits).1 ∙ here_grid)
 
-        pub sits_next : r.Sits next.view
-        sits_next = subst r.Sits (sym moved_here.0) (laws.phase_moves here_view p x here_sits).2
+        pub sits_next : r.Sits next.view c.start
+        sits_next = subst (λ (w : V). r.Sits w c.start) (sym moved_here.0) (laws.phase_moves here_view c.start p x here_sits).2
 
         may_find : MayFind t c.shape p x
         may_find = subst (λ (h : Grid). MayFind t h p x) here_grid (laws.told here_view p x moved_here.1)
@@ -148,7 +148,7 @@ module _ {P V : Type 0} (t : Table P) (drops : Bool) (r : Rule P V) where
         finds_fit = may_find.fits
 
         view_on : r.view_of next.view ≡ seen t c.shape (r.view_of here_view) p x
-        view_on = ap r.view_of moved_here.0 ∙ ((laws.phase_moves here_view p x here_sits).0 ∙ ap (λ (h : Grid). seen t h (r.view_of here_view) p x) here_grid)
+        view_on = ap r.view_of moved_here.0 ∙ ((laws.phase_moves here_view c.start p x here_sits).0 ∙ ap (λ (h : Grid). seen t h (r.view_of here_view) p x) here_grid)
 
         abbrev step : Step
         step = logged (t.want c.shape p entry) x
@@ -219,7 +219,7 @@ module _ {P V : Type 0} (t : Table P) (drops : Bool) (r : Rule P V) where
         same_next : next.id ≡ c.before.id
         same_next = ap (λ (z : Sitting V). z.id) logs ∙ i.same
 
-    pub put_begins : (g : Grid) (entry : List ℕ) (old : Sitting V) → r.grid_of old.view ≡ g → r.Sits old.view → (r.view_of old.view).phase ≡ None → length entry ≡ g.width → length (r.view_of old.view).made < most_puts g
+    pub put_begins : (g : Grid) (entry : List ℕ) (old : Sitting V) → r.grid_of old.view ≡ g → r.Sits old.view (start.Put entry) → (r.view_of old.view).phase ≡ None → length entry ≡ g.width → length (r.view_of old.view).made < most_puts g
         → IsPutAt t drops r (put_call t g entry old) old t.first_put
     put_begins g entry old grid sits rest wide room =
         let v = begins_view old.view (start.Put entry) sits rest in
@@ -296,7 +296,7 @@ module _ {P V : Type 0} (t : Table P) (drops : Bool) (r : Rule P V) where
         steps = ends c c.words now p i.at x pick o next picks wants logs told value (answer.Put a) is;
       }
 
-    pub take_begins : (g : Grid) (out : List ℕ) (old : Sitting V) → r.grid_of old.view ≡ g → r.Sits old.view → (r.view_of old.view).phase ≡ None → length out ≡ g.width → IsTakeAt t drops r (take_call t r g out old) old out (t.first_take g (r.view_of old.view).taken)
+    pub take_begins : (g : Grid) (out : List ℕ) (old : Sitting V) → r.grid_of old.view ≡ g → r.Sits old.view start.Take → (r.view_of old.view).phase ≡ None → length out ≡ g.width → IsTakeAt t drops r (take_call t r g out old) old out (t.first_take g (r.view_of old.view).taken)
     take_begins g out old grid sits rest long =
         let v = begins_view old.view start.Take sits rest in
         let first : P = t.first_take g (r.view_of old.view).taken in

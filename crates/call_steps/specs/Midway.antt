@@ -41,7 +41,7 @@ module _ {P V : Type 0} (table : Table P) (drops : Bool) (rule : Rule P V) where
   pub record IsAt (call : Call P V) (entry : List ℕ) (now : Sitting V) (phase : P) : Type 0 where
     pub same : now.id ≡ call.before.id
     pub grid : rule.grid_of now.view ≡ call.shape
-    pub sits : rule.Sits now.view
+    pub sits : rule.Sits now.view call.start
     pub may : MayDo call.shape (rule.view_of now.view) call.start
     pub in_range : table.IsInRange call.shape phase
     pub here : (view_in call.start now).phase ≡ Some phase
@@ -88,7 +88,7 @@ module _ {P V : Type 0} (table : Table P) (drops : Bool) (rule : Rule P V) where
   pub record HasAnsweredPut (call : Call P V) (now : Sitting V) (result : Put) : Type 0 where
     pub same : now.id ≡ call.before.id
     pub grid : rule.grid_of now.view ≡ call.shape
-    pub sits : rule.Sits now.view
+    pub sits : rule.Sits now.view call.start
     pub view : HasPut call.words (rule.view_of call.before.view) (rule.view_of now.view) result
     pub promised : Puts call.shape drops call.words (rule.view_of call.before.view).made
         (rule.view_of now.view).made (rule.view_of now.view).trail result
@@ -99,7 +99,7 @@ module _ {P V : Type 0} (table : Table P) (drops : Bool) (rule : Rule P V) where
       (result : Take) : Type 0 where
     pub same : now.id ≡ call.before.id
     pub grid : rule.grid_of now.view ≡ call.shape
-    pub sits : rule.Sits now.view
+    pub sits : rule.Sits now.view call.start
     pub view : HasTaken call.words out (rule.view_of call.before.view) (rule.view_of now.view)
         result
     pub promised : Takes call.shape drops (rule.view_of now.view).made call.words out
@@ -118,10 +118,11 @@ module _ {P V : Type 0} (table : Table P) (drops : Bool) (rule : Rule P V) where
   IsTakeOn call now out (Done (answer.Take result)) = HasAnsweredTake call now out result
   IsTakeOn call now out (Done (answer.Put result)) = ⊥
 
--- a seat of this queue is at rest, and stands for itself
-pub record IsFree {P V : Type 0} (rule : Rule P V) (grid : Grid) (view : V) : Type 0 where
+-- a seat of this queue is at rest, stands for itself, and may begin this call
+pub record IsFree {P V : Type 0} (rule : Rule P V) (grid : Grid) (call : Start) (view : V)
+    : Type 0 where
   pub shape : rule.grid_of view ≡ grid
-  pub sits : rule.Sits view
+  pub sits : rule.Sits view call
   pub rest : (rule.view_of view).phase ≡ None
 
 -- a call of this shape that puts an entry, and one that takes into a buffer

@@ -60,12 +60,12 @@ abbrev pub HasRoom : {P : Type 0} → Table P → Grid → View P → Type 0
 HasRoom table shape view = length view.made + may_make table view.phase ≤ most_puts shape
 
 -- How the views V of a rule are the machine's: the shape and the machine's view in each, whether it
--- is that of one caller's seat, the view of a seat that begins a call and that after a step, and
--- what the rule tells of a value that the step of a phase found.
+-- is that of one caller's seat which may begin this call, the view of a seat that begins a call and
+-- that after a step, and what the rule tells of a value that the step of a phase found.
 pub record Rule (P V : Type 0) : Type 1 where
   pub grid_of : V → Grid
   pub view_of : V → View P
-  pub Sits : V → Type 0
+  pub Sits : V → Start → Type 0
   pub begins : V → Start → V
   pub moves_to : V → P → ℕ → V
   pub Tells : V → P → ℕ → Type 0
@@ -97,17 +97,17 @@ module _ {P V : Type 0} (rule : Rule P V) where
   pub record RunsCalls {K : Type 0} (table : Table P) (drops : Bool)
       (holds : K → List ℕ → List V → Type 0) : Type 0 where
     pub call_begins : (view : V) (call : Start)
-        → rule.Sits view → (rule.view_of view).phase ≡ None
+        → rule.Sits view call → (rule.view_of view).phase ≡ None
         → (rule.view_of (rule.begins view call)
         ≡ begun table (rule.grid_of view) (rule.view_of view) None call)
         × (rule.grid_of (rule.begins view call) ≡ rule.grid_of view)
-        × rule.Sits (rule.begins view call)
-    pub phase_moves : (view : V) (phase : P) (value : ℕ)
-        → rule.Sits view
+        × rule.Sits (rule.begins view call) call
+    pub phase_moves : (view : V) (call : Start) (phase : P) (value : ℕ)
+        → rule.Sits view call
         → (rule.view_of (rule.moves_to view phase value)
         ≡ seen table (rule.grid_of view) (rule.view_of view) phase value)
         × (rule.grid_of (rule.moves_to view phase value) ≡ rule.grid_of view)
-        × rule.Sits (rule.moves_to view phase value)
+        × rule.Sits (rule.moves_to view phase value) call
     pub told : (view : V) (phase : P) (value : ℕ) → rule.Tells view phase value
         → MayFind table (rule.grid_of view) phase value
     pub promised : (view : V) (phase : P) (value : ℕ) (answer : Answer)
@@ -116,7 +116,7 @@ module _ {P V : Type 0} (rule : Rule P V) where
         → Promises (rule.grid_of view) drops (rule.view_of view)
         (seen table (rule.grid_of view) (rule.view_of view) phase value) answer
     pub kept : (key : K) (view : V) (call : Start) (phase : P)
-        → rule.Sits view → MayDo (rule.grid_of view) (rule.view_of view) call
+        → rule.Sits view call → MayDo (rule.grid_of view) (rule.view_of view) call
         → (rule.view_of (in_call view call)).phase ≡ Some phase
         → (let operation =
         table.want (rule.grid_of view) phase (rule.view_of (in_call view call)).entry in

@@ -24,7 +24,7 @@ pub fn run_put<P: CallPhase, U: MachineRule<P>, E: Call>(
 ) -> Put
     requires words { words.now.id.words ≡ word_count shape.now }
     requires own { seat.old.id ≡ words.now.id }
-    requires free { IsFree U.rule shape.now seat.old.view }
+    requires free { IsFree U.rule shape.now (start.Put entry.now) seat.old.view }
     requires width { length entry.now ≡ shape.now.width }
     requires room { length (U.rule.view_of seat.old.view).made < most_puts shape.now }
     requires call { E.start ≡ start.Put entry.now }
@@ -150,7 +150,7 @@ pub fn run_take<P: CallPhase, U: MachineRule<P>, E: Call>(
 ) -> Take
     requires words { words.now.id.words ≡ word_count shape.now }
     requires own { seat.old.id ≡ words.now.id }
-    requires free { IsFree U.rule shape.now seat.old.view }
+    requires free { IsFree U.rule shape.now start.Take seat.old.view }
     requires first { first ≡ P.table.first_take shape.now (U.rule.view_of seat.old.view).taken }
     requires width { length out.old ≡ shape.now.width }
     requires call { E.start ≡ start.Take }

@@ -17,11 +17,12 @@ ghost use Rattle.block_looks.specs.Looks.{no_looks};
 ghost use Rattle.drop_rail.specs.Looking.{HasSeenAccepted};
 
 use block_looks::Looks;
+use call_laws::SharedPhase;
 use call_steps::read_unreserved;
 use cursor_word::Shape;
 use drop_core::{DropPhase, drop_first_take};
 use rail::{Batch, Put, Rail, Refused, Take};
-use shared_seats::{SharedQueue, SharedSeat, totals};
+use shared_seats::{Memory, SharedQueue, SharedSeat, totals};
 use std::alloc::{AllocError, Global};
 use std::marker::Model;
 use std::snapshot::Snapshot;
@@ -95,6 +96,8 @@ impl DropRail {
         ensures drop { DropOutcome result.shape result.accepted result.taken result.left }
         ensures looked { All (HasSeenAccepted result.accepted) seats.items }
     {
+        DropPhase::seats();
+        Looks::lasts();
         let before = Snapshot::of(&seats);
         let shape = self.queue.shape();
         let stopped = self.queue.stop(seats);

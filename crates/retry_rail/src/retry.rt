@@ -1,5 +1,5 @@
 //! The queue.
-ghost use Rattle.std.specs.Prelude.{◌≡◌, ℕ, ◌+◌, ◌-◌, ◌^◌, ◌<◌, ◌≤◌, List, [], Some, IfErr, IfOk, IsPermutation, false, true, flat_map, length, map, min};
+ghost use Rattle.std.specs.Prelude.{◌≡◌, ℕ, ◌<◌, List, [], Some, IfErr, IfOk, IsPermutation, false, true, flat_map, length, map};
 ghost use Rattle.std.specs.List.{All};
 ghost use Rattle.cursor_word.specs.Cursor.{most_puts};
 ghost use Rattle.rail.specs.Items.{IsRising, places};
@@ -11,16 +11,14 @@ ghost use Rattle.bbq_core.specs.Table.{table};
 ghost use Rattle.bbq_core.specs.declared.phase.Phase.{Phase};
 ghost use Rattle.call_steps.specs.Call.{TookSteps};
 ghost use Rattle.call_steps.specs.Queue.{IsFresh, IsSeatOf, Queue, Seated};
-ghost use Rattle.shared_seats.specs.Seats.{made_by_all, taken_by_all};
 
 use bbq_core::{Phase, first_take};
-use call_steps::read_left;
 use cursor_word::Shape;
 use rail::{Batch, Put, Rail, Refused, Take};
-use shared_seats::{SharedQueue, SharedSeat, totals};
+use retry_close::{SettledQueue, close};
+use shared_seats::{SharedQueue, SharedSeat};
 use std::alloc::{AllocError, Global};
 use std::marker::Model;
-use std::snapshot::Snapshot;
 
 /// The token with which one caller puts and takes.
 pub type RetrySeat = SharedSeat<Phase, ()>;
@@ -41,26 +39,7 @@ impl Model for RetryRail {
 }
 
 /// What a closed `RetryRail` had.
-#[derive(Drop)]
-pub struct RetryDone {
-    shape: Shape,
-    accepted: u64,
-    left: Batch,
-    seats: Snapshot<Vec<RetrySeat>>,
-}
-
-impl Model for RetryDone {
-    ghost use Rattle.std.specs.Prelude.{◌≡◌, length};
-    ghost use Rattle.call_steps.specs.Queue.{Closed};
-    ghost use Rattle.shared_seats.specs.Seats.{made_by_all};
-    ghost use Rattle.retry_rail.specs.Closed.{closed};
-
-    ghost Value = { Closed };
-
-    ghost view = { λ d. closed d.shape d.seats.value.items d.left.items };
-
-    ghost invariant = { λ d. d.accepted ≡ length (made_by_all d.seats.value.items) };
-}
+pub type RetryDone = SettledQueue<Phase>;
 
 impl RetryRail {
     /// A queue of this shape, and all its seats. None of them has made or taken anything.
@@ -72,38 +51,6 @@ impl RetryRail {
     {
         let (queue, seats) = SharedQueue::<Phase, ()>::make(alloc, shape)?;
         Ok((RetryRail { queue }, seats))
-    }
-
-    // Stops all steps, and reads what is left.
-    fn finish(self, seats: Vec<RetrySeat>, puts: u64, takes: u64, mut left: Batch) -> RetryDone
-        requires seats { All (IsSeatOf self) seats.items }
-        requires all { length seats.items ≡ self.shape.seats }
-        requires puts { puts ≡ min (length (made_by_all seats.items)) (2 ^ 64 - 1) }
-        requires takes { takes ≡ min (length (taken_by_all seats.items)) (2 ^ 64 - 1) }
-        requires empty { left.items ≡ [] }
-        requires room { puts - takes ≤ left.spare }
-        ensures shape { result.shape ≡ self.shape }
-        ensures accepted { IsAccepted (made_by_all seats.items) result.accepted }
-        ensures taken { IsPermutation (taken_by_all seats.items) result.taken }
-        ensures order { IsRising (places result.taken) }
-        ensures retry { RetryOutcome result.accepted result.taken result.left }
-    {
-        let before = Snapshot::of(&seats);
-        let shape = self.queue.shape();
-        let stopped = self.queue.stop(seats);
-        read_left(
-            &stopped,
-            &shape,
-            takes,
-            puts.saturating_sub(takes),
-            &mut left,
-        );
-        RetryDone {
-            shape,
-            accepted: puts,
-            left,
-            seats: before,
-        }
     }
 }
 
@@ -211,10 +158,12 @@ impl Rail for RetryRail {
         ensures refused { IfErr result (λ refused. (refused.rail ≡ self)
             × (refused.seats.items ≡ seats.items)) }
     {
-        let (puts, takes) = totals(seats.as_slice());
-        match Batch::with_room(alloc, puts.saturating_sub(takes) as usize) {
-            Ok(left) => Ok(self.finish(seats, puts, takes, left)),
-            Err(_) => Err(Refused { rail: self, seats }),
+        match close(self.queue, alloc, seats) {
+            Ok(done) => Ok(done),
+            Err(Refused { rail, seats }) => Err(Refused {
+                rail: RetryRail { queue: rail },
+                seats,
+            }),
         }
     }
 
@@ -223,10 +172,10 @@ impl Rail for RetryRail {
     }
 
     fn accepted(done: &RetryDone) -> u64 {
-        done.accepted
+        done.accepted()
     }
 
     fn left(done: &RetryDone) -> &Batch {
-        &done.left
+        done.left()
     }
 }

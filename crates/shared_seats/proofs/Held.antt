@@ -3,29 +3,22 @@ use Rattle.std.proofs.Common.{◌≡◌, ◌⊎◌, ℕ, zero, suc, ◌<◌, Lis
 use Rattle.std.specs.Prelude.{Some, slice_get}
 use Rattle.std.proofs.lemmas.List.{take-append-drop}
 use Rattle.std.proofs.lemmas.Grind.{flat_map-append}
-use Rattle.std.proofs.lemmas.List.Sorted.{Contains-permutation, IsPermutation-trans, IsPermutation-sym, IsPermutation-append, IsPermutation-append_comm, IsPermutation-refl, length_permutation}
-use Rattle.std.proofs.lemmas.Option.{slice_get-get_or, slice_get_within, get_or_from_slice_get}
+use Rattle.std.proofs.lemmas.List.Sorted.{IsPermutation-trans, IsPermutation-sym, IsPermutation-append, IsPermutation-append_comm, IsPermutation-refl}
 use mathlib.Core.Option.{some}
 use lib.ListN.{get_elem?}
 use Rattle.cursor_word.specs.Shape.{Grid}
 use Rattle.step_log.proofs.Lists.{at_set, at_snoc}
 use Rattle.step_log.specs.Log.{Parts, Merges}
-use Rattle.machine.specs.declared.view.View.{View}
 use Rattle.machine.specs.Table.{Table}
 use Rattle.machine.specs.Invariant.{Fact}
-use Rattle.call_laws.specs.Seats.{IsOrderless}
 use Rattle.shared_seats.specs.declared.holding.Holding.{Holding}
-use Rattle.shared_seats.specs.Memory.{IsLasting, Knowledge}
-use Rattle.shared_seats.specs.Holding.{IsHeld, IsRemembered, first_seat, joint_seats, no_seats, other_seats, views_of}
+use Rattle.shared_seats.specs.declared.holding.Numbered.{Numbered}
+use Rattle.shared_seats.specs.Memory.{Knowledge}
+use Rattle.shared_seats.specs.Holding.{IsHeld, IsRemembered, first_seat, joint_seats, no_seats, numbered_from, other_seats, seats_of}
 use Rattle.shared_seats.proofs.Parted.{replaced, replaced_two}
 
--- what stands in a list stands in any order of it
-pub stands : {A : Type 0} (xs ys : List A) (j : ℕ) (x : A) → IsPermutation xs ys → slice_get ys j ≡ Some x → (i : ℕ) × (slice_get xs i ≡ Some x)
-stands xs ys j x p e = let c = Contains-permutation ys xs x (IsPermutation-sym xs ys p) (j, slice_get_within ys j x e, get_or_from_slice_get ys j x x e) in
-    (c.0, slice_get-get_or xs c.0 x c.1 ∙ ap Some c.2)
-
-abbrev pub views : {P M : Type 0} → Holding P M → List (View P)
-views h = h.views
+abbrev pub seats : {P M : Type 0} → Holding P M → List (Numbered P)
+seats h = h.seats
 
 module _ {A : Type 0} where
   get_drop : (xs : List A) (i : ℕ) (x : A) → slice_get (drop 1 xs) i ≡ Some x → slice_get xs (suc i) ≡ Some x
@@ -43,17 +36,19 @@ module _ {A : Type 0} where
   get_joint (z ∷ zs) ys zero x e = inl (zero, e)
   get_joint (z ∷ zs) ys (suc i) x e = ⊎_elim (λ l. inl (suc l.0, l.1)) (λ r. inr r) (get_joint zs ys i x e)
 
-module _ {P M : Type 0} (t : Table P) (Holds : Fact P) (Knows : Knowledge P M) (none : M) (order : IsOrderless Holds) (lasting : IsLasting t Holds Knows none) (g : Grid) where
-  -- the rule holds of other holdings of the same views
-  pub held_permuted : (words : List ℕ) (old new : List (Holding P M)) → IsHeld t Holds Knows g words old → IsPermutation (views_of old) (views_of new) → ((at : ℕ) (h : Holding P M) → get_elem? new at ≡ some h → 0 < length h.views → h.shape ≡ g)
+module _ {P M : Type 0} (t : Table P) (Holds : Fact P) (Knows : Knowledge P M) (g : Grid) where
+  -- the rule holds of other holdings of the same seats
+  pub held_permuted : (words : List ℕ) (old new : List (Holding P M)) → IsHeld t Holds Knows g words old → IsPermutation (seats_of old) (seats_of new) → ((at : ℕ) (h : Holding P M) → get_elem? new at ≡ some h → 0 < length h.seats → h.shape ≡ g)
       → ((m : M) → IsRemembered new m → IsRemembered old m) → IsHeld t Holds Knows g words new
   held_permuted words old new held p shapes kept = record {
     limits = held.limits;
     shapes = shapes;
-    holds = order g words (views_of old) (views_of new) p held.holds;
-    all = length_permutation (views_of old) (views_of new) p ∙ held.all;
-    few = λ j v e. let at = stands (views_of old) (views_of new) j v p e in held.few at.0 v at.1;
-    memories = λ m is. lasting.orderless g words (views_of old) (views_of new) m p (held.memories m (kept m is));
+    views = held.views;
+    in_order = IsPermutation-trans (seats_of new) (seats_of old) (numbered_from 0 held.views) (IsPermutation-sym (seats_of old) (seats_of new) p) held.in_order;
+    holds = held.holds;
+    all = held.all;
+    few = held.few;
+    memories = λ m is. held.memories m (kept m is);
   }
 
   here : (hs : List (Holding P M)) (at : ℕ) (h k : Holding P M) (m : M) → get_elem? hs at ≡ some h → k ≡ h → (i : ℕ) → slice_get k.memories i ≡ Some m → IsRemembered hs m
@@ -85,31 +80,31 @@ module _ {P M : Type 0} (t : Table P) (Holds : Fact P) (Knows : Knowledge P M) (
   pub deals : (h : Holding P M) → Parts (IsHeld t Holds Knows g) h (other_seats h) (first_seat h)
   deals h words hs at held get =
       let l = other_seats h in let r = first_seat h in
-      let q = replaced views hs at h get in
-      let is : views_of (set hs at l ++ r ∷ []) ≡ views_of (set hs at l) ++ r.views = flat_map-append views (set hs at l) (r ∷ []) ∙ ap (λ (vs : List (View P)). views_of (set hs at l) ++ vs) (append-nil r.views) in
-      let turned : IsPermutation (views_of (set hs at l) ++ r.views) (r.views ++ views_of (set hs at l)) = IsPermutation-append_comm (views_of (set hs at l)) r.views in
-      let parted : IsPermutation (r.views ++ views_of (set hs at l)) (r.views ++ (l.views ++ q.rest)) = IsPermutation-append r.views r.views (views_of (set hs at l)) (l.views ++ q.rest) (IsPermutation-refl r.views) (q.after l) in
-      let whole : r.views ++ (l.views ++ q.rest) ≡ h.views ++ q.rest = sym (append_assoc r.views l.views q.rest) ∙ ap (λ (vs : List (View P)). vs ++ q.rest) (take-append-drop 1 h.views) in
-      let new : IsPermutation (views_of (set hs at l ++ r ∷ [])) (h.views ++ q.rest) = subst (λ (vs : List (View P)). IsPermutation vs (h.views ++ q.rest)) (sym is)
-      (IsPermutation-trans _ (r.views ++ views_of (set hs at l)) (h.views ++ q.rest) turned (subst (IsPermutation (r.views ++ views_of (set hs at l))) whole parted)) in
+      let q = replaced seats hs at h get in
+      let is : seats_of (set hs at l ++ r ∷ []) ≡ seats_of (set hs at l) ++ r.seats = flat_map-append seats (set hs at l) (r ∷ []) ∙ ap (λ (vs : List (Numbered P)). seats_of (set hs at l) ++ vs) (append-nil r.seats) in
+      let turned : IsPermutation (seats_of (set hs at l) ++ r.seats) (r.seats ++ seats_of (set hs at l)) = IsPermutation-append_comm (seats_of (set hs at l)) r.seats in
+      let parted : IsPermutation (r.seats ++ seats_of (set hs at l)) (r.seats ++ (l.seats ++ q.rest)) = IsPermutation-append r.seats r.seats (seats_of (set hs at l)) (l.seats ++ q.rest) (IsPermutation-refl r.seats) (q.after l) in
+      let whole : r.seats ++ (l.seats ++ q.rest) ≡ h.seats ++ q.rest = sym (append_assoc r.seats l.seats q.rest) ∙ ap (λ (vs : List (Numbered P)). vs ++ q.rest) (take-append-drop 1 h.seats) in
+      let new : IsPermutation (seats_of (set hs at l ++ r ∷ [])) (h.seats ++ q.rest) = subst (λ (vs : List (Numbered P)). IsPermutation vs (h.seats ++ q.rest)) (sym is)
+      (IsPermutation-trans _ (r.seats ++ seats_of (set hs at l)) (h.seats ++ q.rest) turned (subst (IsPermutation (r.seats ++ seats_of (set hs at l))) whole parted)) in
       let mine = held.shapes at h get in
-      held_permuted words hs (set hs at l ++ r ∷ []) held (IsPermutation-trans (views_of hs) (h.views ++ q.rest) _ q.before (IsPermutation-sym _ (h.views ++ q.rest) new))
+      held_permuted words hs (set hs at l ++ r ∷ []) held (IsPermutation-trans (seats_of hs) (h.seats ++ q.rest) _ q.before (IsPermutation-sym _ (h.seats ++ q.rest) new))
       (λ j k e some. ⊎_elim
-      (λ old. ⊎_elim (λ u. subst (λ (x : Holding P M). 0 < length x.views → x.shape ≡ g) u.1 (λ lt. mine (omega (arith, length-append r.views l.views, ap length (take-append-drop 1 h.views)))) some)
+      (λ old. ⊎_elim (λ u. subst (λ (x : Holding P M). 0 < length x.seats → x.shape ≡ g) u.1 (λ lt. mine (omega (arith, length-append r.seats l.seats, ap length (take-append-drop 1 h.seats)))) some)
       (λ u. held.shapes j k u.1 some) (at_set hs at j l k old))
-      (λ last. subst (λ (x : Holding P M). 0 < length x.views → x.shape ≡ g) last (λ lt. mine (omega (arith, length-append r.views l.views, ap length (take-append-drop 1 h.views)))) some)
+      (λ last. subst (λ (x : Holding P M). 0 < length x.seats → x.shape ≡ g) last (λ lt. mine (omega (arith, length-append r.seats l.seats, ap length (take-append-drop 1 h.seats)))) some)
       (at_snoc (set hs at l) r k j e))
       (deals_keep hs at h get)
 
-  pub gathers : (h k : Holding P M) → 0 < length h.views → Merges (IsHeld t Holds Knows g) h k (joint_seats h k) (no_seats P M)
-  gathers h k some_views words hs at other held get get' ne =
+  pub gathers : (h k : Holding P M) → 0 < length h.seats → Merges (IsHeld t Holds Knows g) h k (joint_seats h k) (no_seats P M)
+  gathers h k some_seats words hs at other held get get' ne =
       let b = joint_seats h k in
-      let q = replaced_two views hs at other h k get get' ne in
-      let is : b.views ++ ([] ++ q.rest) ≡ h.views ++ (k.views ++ q.rest) = append_assoc h.views k.views q.rest in
+      let q = replaced_two seats hs at other h k get get' ne in
+      let is : b.seats ++ ([] ++ q.rest) ≡ h.seats ++ (k.seats ++ q.rest) = append_assoc h.seats k.seats q.rest in
       held_permuted words hs (set (set hs at b) other (no_seats P M)) held
-      (IsPermutation-trans (views_of hs) (h.views ++ (k.views ++ q.rest)) _ q.before (IsPermutation-sym _ (h.views ++ (k.views ++ q.rest)) (subst (IsPermutation (views_of (set (set hs at b) other (no_seats P M)))) is (q.after b (no_seats P M)))))
+      (IsPermutation-trans (seats_of hs) (h.seats ++ (k.seats ++ q.rest)) _ q.before (IsPermutation-sym _ (h.seats ++ (k.seats ++ q.rest)) (subst (IsPermutation (seats_of (set (set hs at b) other (no_seats P M)))) is (q.after b (no_seats P M)))))
       (λ j x e some. ⊎_elim
-      (λ u. subst (λ (y : Holding P M). 0 < length y.views → y.shape ≡ g) u.1 (λ lt. absurd (omega arith)) some)
-      (λ u. ⊎_elim (λ s. subst (λ (y : Holding P M). y.shape ≡ g) s.1 (held.shapes at h get some_views)) (λ s. held.shapes j x s.1 some) (at_set hs at j b x u.1))
+      (λ u. subst (λ (y : Holding P M). 0 < length y.seats → y.shape ≡ g) u.1 (λ lt. absurd (omega arith)) some)
+      (λ u. ⊎_elim (λ s. subst (λ (y : Holding P M). y.shape ≡ g) s.1 (held.shapes at h get some_seats)) (λ s. held.shapes j x s.1 some) (at_set hs at j b x u.1))
       (at_set (set hs at b) other j (no_seats P M) x e))
       (gathers_keep hs at other h k get get')

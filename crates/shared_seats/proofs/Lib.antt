@@ -1,4 +1,5 @@
 pub mod Parted
+pub mod Numbered
 pub mod Held
 pub mod Gathered
 pub mod Starts
@@ -6,5 +7,6 @@ pub mod Stepped
 pub mod Loaded
 pub mod Unmoved
 pub mod Stops
+pub mod Alike
 pub mod Ordered
 pub mod Closes

@@ -4,11 +4,11 @@ ghost use Rattle.cursor_word.specs.Shape.{Grid};
 ghost use Rattle.machine.specs.declared.view.View.{View};
 ghost use Rattle.shared_seats.specs.Memory.{IsLasting, Knowledge};
 
-use call_laws::SharedPhase;
+use call_laws::CallPhase;
 
 /// What a seat remembers of loads that are no steps of the machine. What holds of it holds between
 /// any two steps of any seat.
-pub trait Memory<P: SharedPhase> {
+pub trait Memory<P: CallPhase> {
     // What a seat remembers that has done nothing.
     ghost none: { Self };
 
@@ -21,7 +21,7 @@ pub trait Memory<P: SharedPhase> {
 }
 
 /// The seats of a queue without such loads remember nothing.
-impl<P: SharedPhase> Memory<P> for () {
+impl<P: CallPhase> Memory<P> for () {
     ghost none = { tt };
 
     ghost Knows = { λ shape words views memory. Unit {0} };

@@ -6,17 +6,18 @@ ghost use Rattle.cursor_word.specs.Cursor.{most_puts};
 ghost use Rattle.cursor_word.specs.Layout.{word_count};
 ghost use Rattle.rail.specs.Rail.{Puts, Takes};
 ghost use Rattle.rail.specs.declared.answer.Answer.TheVariants as answer;
+ghost use Rattle.machine.specs.declared.event.Start.TheVariants as start;
 ghost use Rattle.step_log.specs.Log.{loaded};
 ghost use Rattle.step_log.specs.declared.log.Step.{Step};
 ghost use Rattle.call_steps.specs.Call.{TookSteps};
 ghost use Rattle.call_steps.specs.Queue.{IsFresh, IsSeatOf, Queue};
 ghost use Rattle.shared_seats.specs.Memory.{KeepsMemory};
-ghost use Rattle.shared_seats.specs.Seats.{HasStopped, views_of_all};
+ghost use Rattle.shared_seats.specs.Seats.{StandStill};
 
 use crate::memory::{LoadFact, Memory};
 use crate::rule::{Holdings, Remembers};
 use crate::seats::{SharedSeat, deal, gather};
-use call_laws::SharedPhase;
+use call_laws::CallPhase;
 use call_steps::{puts_after, run_put, run_take, takes_after};
 use cursor_word::Shape;
 use machine::start_words;
@@ -27,12 +28,12 @@ use step_log::{Stopped, Words};
 
 /// The words of a queue, and what its seats do on them.
 #[derive(Drop)]
-pub struct SharedQueue<P: SharedPhase, M: Memory<P>> {
+pub struct SharedQueue<P: CallPhase, M: Memory<P>> {
     words: Words<Holdings<P, M>>,
     shape: Shape,
 }
 
-impl<P: SharedPhase, M: Memory<P>> Model for SharedQueue<P, M> {
+impl<P: CallPhase, M: Memory<P>> Model for SharedQueue<P, M> {
     ghost use Rattle.std.specs.Prelude.{◌≡◌};
     ghost use Rattle.cursor_word.specs.Layout.{word_count};
     ghost use Rattle.call_steps.specs.Queue.{Queue};
@@ -44,7 +45,7 @@ impl<P: SharedPhase, M: Memory<P>> Model for SharedQueue<P, M> {
     ghost invariant = { λ q. (q.words.key ≡ q.shape) × (q.words.id.words ≡ word_count q.shape) };
 }
 
-impl<P: SharedPhase, M: Memory<P>> SharedQueue<P, M> {
+impl<P: CallPhase, M: Memory<P>> SharedQueue<P, M> {
     /// A queue of this shape, and all its seats. None of them has made or taken anything.
     pub fn make(
         alloc: Global,
@@ -78,6 +79,7 @@ impl<P: SharedPhase, M: Memory<P>> SharedQueue<P, M> {
     #[inline(always)]
     pub fn put(&self, seat: &mut SharedSeat<P, M>, entry: &[u64]) -> Put
         requires seat { IsSeatOf self.now seat.old }
+        requires may { P.table.MayBegin self.now.shape seat.old.number (start.Put entry.now) }
         requires width { length entry.now ≡ self.now.shape.width }
         requires room { length seat.old.view.made < most_puts self.now.shape }
         ensures of { seat.new.of ≡ seat.old.of }
@@ -106,6 +108,7 @@ impl<P: SharedPhase, M: Memory<P>> SharedQueue<P, M> {
     #[inline(always)]
     pub fn take(&self, seat: &mut SharedSeat<P, M>, first: P, out: &mut [u64]) -> Take
         requires seat { IsSeatOf self.now seat.old }
+        requires may { P.table.MayBegin self.now.shape seat.old.number start.Take }
         requires first { first ≡ P.table.first_take self.now.shape seat.old.view.taken }
         requires width { length out.old ≡ self.now.shape.width }
         ensures of { seat.new.of ≡ seat.old.of }
@@ -148,8 +151,6 @@ impl<P: SharedPhase, M: Memory<P>> SharedQueue<P, M> {
         ensures told { F.then self.now.shape seat.old.view seat.old.memory result
             seat.new.memory }
     {
-        P::seats();
-        M::lasts();
         self.words.load::<Remembers<F>>(&mut seat.seat, index)
     }
 
@@ -158,12 +159,8 @@ impl<P: SharedPhase, M: Memory<P>> SharedQueue<P, M> {
         requires seats { All (IsSeatOf self) seats.items }
         requires all { length seats.items ≡ self.shape.seats }
         ensures words { length result ≡ word_count self.shape }
-        ensures stopped { HasStopped P.table P.Holds self.shape result (views_of_all seats.items) }
-        ensures memories { All
-            (λ s. M.Knows self.shape result (views_of_all seats.items) s.memory) seats.items }
+        ensures stopped { StandStill P.table P.Holds M.Knows self.shape result seats.items }
     {
-        P::seats();
-        M::lasts();
         let _blocks = self.shape.blocks();
         let SharedQueue { words, .. } = self;
         let all = gather::<P, M>(&words, seats);

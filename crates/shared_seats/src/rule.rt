@@ -6,7 +6,7 @@ ghost use Rattle.shared_seats.specs.Holding.{HasLoaded, IsHeld, all_seats, first
 
 use crate::holding::Holding;
 use crate::memory::{LoadFact, Memory};
-use call_laws::SharedPhase;
+use call_laws::CallPhase;
 use call_steps::MachineRule;
 use cursor_word::Shape;
 use std::marker::PhantomData;
@@ -16,7 +16,7 @@ pub struct Holdings<P, M> {
     of: PhantomData<(P, M)>,
 }
 
-impl<P: SharedPhase, M: Memory<P>> StepRule for Holdings<P, M> {
+impl<P: CallPhase, M: Memory<P>> StepRule for Holdings<P, M> {
     type Key = Shape;
 
     type View = Holding<P, M>;
@@ -28,13 +28,12 @@ impl<P: SharedPhase, M: Memory<P>> StepRule for Holdings<P, M> {
     ghost spent = { no_seats _ _ };
 }
 
-impl<P: SharedPhase, M: Memory<P>> MachineRule<P> for Holdings<P, M> {
+impl<P: CallPhase, M: Memory<P>> MachineRule<P> for Holdings<P, M> {
     ghost rule = { held_rule P.table P.drops };
 
     fn runs() {
         P::keeps();
         P::calls();
-        P::seats();
         M::lasts();
     }
 }
@@ -42,7 +41,7 @@ impl<P: SharedPhase, M: Memory<P>> MachineRule<P> for Holdings<P, M> {
 /// Seats are dealt, and gathered again.
 pub struct Deal;
 
-impl<P: SharedPhase, M: Memory<P>> StepFact<Holdings<P, M>> for Deal {
+impl<P: CallPhase, M: Memory<P>> StepFact<Holdings<P, M>> for Deal {
     ghost then = { λ v t w. w ≡ v };
 
     ghost left = { other_seats };
@@ -57,6 +56,6 @@ pub(crate) struct Remembers<F> {
     fact: PhantomData<F>,
 }
 
-impl<P: SharedPhase, M: Memory<P>, F: LoadFact<P, M>> StepFact<Holdings<P, M>> for Remembers<F> {
+impl<P: CallPhase, M: Memory<P>, F: LoadFact<P, M>> StepFact<Holdings<P, M>> for Remembers<F> {
     ghost then = { λ v t w. HasLoaded M.none F.then v (value_of t) w };
 }

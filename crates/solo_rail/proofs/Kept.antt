@@ -128,7 +128,7 @@ module _ {P : Type 0} (t : Table P) (Holds : Fact P) (drops : Bool) (lone : Lone
   pub alone_runs : RunsCalls (alone_rule t drops lone) t drops (IsHeld t lone)
   alone_runs = record {
     call_begins = λ h s sits rest. (refl, refl, tt);
-    phase_moves = λ h p n sits. (refl, refl, tt);
+    phase_moves = λ h s p n sits. (refl, refl, tt);
     told = λ h p n told. told.may;
     promised = λ h p n a told is trail. told.promised a is trail;
     kept = λ key h s p sits may here words views position held get fits.

@@ -54,7 +54,7 @@ module _ {P : Type 0} (table : Table P) where
         record {
           grid_of = λ held. held.shape;
           view_of = λ held. held.view;
-          Sits = λ held. Unit {0};
+          Sits = λ held call. Unit {0};
           begins = begins_call;
           moves_to = does_step;
           Tells = TellsAlone;

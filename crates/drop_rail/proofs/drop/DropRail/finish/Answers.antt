@@ -6,6 +6,7 @@ use Rattle.rail.specs.Outcome.{DropOutcome, IsAccepted}
 use Rattle.drop_core.specs.declared.phase.DropPhase.{DropPhase}
 use Rattle.call_laws.specs.Left.{unreserved_in}
 use Rattle.call_steps.specs.Queue.{IsSeatOf, SeatedWith}
+use Rattle.shared_seats.proofs.Alike.{memories_alike, stopped_alike}
 use Rattle.shared_seats.specs.Seats.{in_order, made_by_all, taken_by_all}
 use Rattle.block_looks.specs.declared.looks.Looks.{Looks}
 use Rattle.drop_rail.specs.Looking.{HasSeenAccepted}
@@ -21,30 +22,30 @@ stop-stopped-requires-clause-all c = c.requires.all ∙ ap (λ q. q.shape.seats)
 
 pub invariant_of-result : goal.invariant_of-result
 invariant_of-result c =
-    let few = few_made _ _ _ c.stop-stopped.ensures.stopped in
+    let few = few_made _ _ _ (stopped_alike _ _ _ _ _ _ c.stop-stopped.ensures.stopped c.seats.ensures.order) in
     let all : c.args.puts ≡ length (made_by_all c.args.seats.items) = omega (arith, c.requires.puts, ap (λ g. g.size) c.shape-shape.ensures.shape, c.shape-shape.ensures.limits.size_to) in
     all ∙ sym (ap (λ v. length (made_by_all v.items)) c.of-before.ensures)
 
 pub returns-clause-accepted : goal.returns-clause-accepted
 returns-clause-accepted c = let seats = c.args.seats.items in
-    subst (λ (xs : List (SeatedWith DropPhase Looks)). IsAccepted (made_by_all seats) (in_order (made_by_all xs))) (sym (ap (λ v. v.items) c.of-before.ensures)) (closed_accepted _ _ _ c.stop-stopped.ensures.stopped)
+    subst (λ (xs : List (SeatedWith DropPhase Looks)). IsAccepted (made_by_all seats) (in_order (made_by_all xs))) (sym (ap (λ v. v.items) c.of-before.ensures)) (closed_accepted _ _ _ (stopped_alike _ _ _ _ _ _ c.stop-stopped.ensures.stopped c.seats.ensures.order))
 
 pub returns-clause-taken : goal.returns-clause-taken
 returns-clause-taken c = let seats = c.args.seats.items in
-    subst (λ (xs : List (SeatedWith DropPhase Looks)). IsPermutation (taken_by_all seats) (taken_in_order xs)) (sym (ap (λ v. v.items) c.of-before.ensures)) (closed_taken _ _ _ c.stop-stopped.ensures.stopped)
+    subst (λ (xs : List (SeatedWith DropPhase Looks)). IsPermutation (taken_by_all seats) (taken_in_order xs)) (sym (ap (λ v. v.items) c.of-before.ensures)) (closed_taken _ _ _ (stopped_alike _ _ _ _ _ _ c.stop-stopped.ensures.stopped c.seats.ensures.order))
 
 pub returns-clause-order : goal.returns-clause-order
 returns-clause-order c =
-    subst (λ (xs : List (SeatedWith DropPhase Looks)). IsRising (places (taken_in_order xs))) (sym (ap (λ v. v.items) c.of-before.ensures)) (closed_order _ _ _ c.stop-stopped.ensures.stopped)
+    subst (λ (xs : List (SeatedWith DropPhase Looks)). IsRising (places (taken_in_order xs))) (sym (ap (λ v. v.items) c.of-before.ensures)) (closed_order _ _ _ (stopped_alike _ _ _ _ _ _ c.stop-stopped.ensures.stopped c.seats.ensures.order))
 
 pub read_unreserved-requires-clause-places : goal.read_unreserved-requires-clause-places
 read_unreserved-requires-clause-places c =
-    let few = few_made _ _ _ c.stop-stopped.ensures.stopped in
+    let few = few_made _ _ _ (stopped_alike _ _ _ _ _ _ c.stop-stopped.ensures.stopped c.seats.ensures.order) in
     omega (arith, c.requires.puts, c.requires.within, ap place_span c.shape-shape.ensures.shape, ap (λ g. g.size) c.shape-shape.ensures.shape, c.shape-shape.ensures.limits.size_to)
 
 pub returns-clause-drop : goal.returns-clause-drop
 returns-clause-drop c = let seats = c.args.seats.items in let words = c.stop-stopped.result in let g = c.self.inside.queue.shape in let made = made_by_all seats in
-    let few = few_made _ _ _ c.stop-stopped.ensures.stopped in
+    let few = few_made _ _ _ (stopped_alike _ _ _ _ _ _ c.stop-stopped.ensures.stopped c.seats.ensures.order) in
     let shape = c.shape-shape.ensures.shape in
     let limits = c.shape-shape.ensures.limits in
     let puts : c.args.puts ≡ length made = omega (arith, c.requires.puts, ap (λ g. g.size) shape, limits.size_to) in
@@ -57,8 +58,8 @@ returns-clause-drop c = let seats = c.args.seats.items in let words = c.stop-sto
     ∙ (ap (unreserved_in g words c.args.from) end ∙ ap (λ n. unreserved_in g words n (length made)) from))) in
     subst (λ h. DropOutcome h (in_order (made_by_all c.of-before.result.value.items)) (taken_in_order c.of-before.result.value.items) c.read_unreserved.new.left.items) (sym shape)
     (subst (λ (xs : List (SeatedWith DropPhase Looks)). DropOutcome g (in_order (made_by_all xs)) (taken_in_order xs) c.read_unreserved.new.left.items) (sym (ap (λ v. v.items) c.of-before.ensures))
-    (closed_drop _ words seats c.stop-stopped.ensures.stopped c.read_unreserved.new.left.items within left))
+    (closed_drop _ words seats (stopped_alike _ _ _ _ _ _ c.stop-stopped.ensures.stopped c.seats.ensures.order) c.read_unreserved.new.left.items within left))
 
 pub returns-clause-looked : goal.returns-clause-looked
 returns-clause-looked c = let seats = c.args.seats.items in
-    subst (λ (xs : List (SeatedWith DropPhase Looks)). All (HasSeenAccepted (in_order (made_by_all xs))) seats) (sym (ap (λ v. v.items) c.of-before.ensures)) (looked_accepted _ _ _ c.stop-stopped.ensures.stopped c.stop-stopped.ensures.memories)
+    subst (λ (xs : List (SeatedWith DropPhase Looks)). All (HasSeenAccepted (in_order (made_by_all xs))) seats) (sym (ap (λ v. v.items) c.of-before.ensures)) (looked_accepted _ _ _ (stopped_alike _ _ _ _ _ _ c.stop-stopped.ensures.stopped c.seats.ensures.order) (memories_alike _ _ _ _ _ _ c.stop-stopped.ensures.stopped _ c.lasts.ensures))

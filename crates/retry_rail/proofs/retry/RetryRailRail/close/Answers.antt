@@ -1,12 +1,5 @@
-use Rattle.std.proofs.Common.{◌∙◌, map, sym}
-use Rattle.std.proofs.lemmas.List.{length-map}
-use Rattle.std.proofs.lemmas.List.FromFn.{length-range_with_len}
-use Rattle.std.proofs.lemmas.List.Sorted.{length_permutation}
-use Rattle.rail.specs.Outcome.{numbers_below}
-use Rattle.bbq_core.specs.declared.phase.Phase.{Phase}
-use Rattle.call_steps.specs.Queue.{Seated}
+use Rattle.retry_rail.proofs.Settles.{settles}
 use Rattle.retry_rail.proofs.retry.RetryRailRail.close.Goals as goal
 
-pub finish-requires-clause-all : goal.finish-requires-clause-all
-finish-requires-clause-all c = let n = c.args.self.shape.seats in
-    sym (length-map c.args.seats.items (λ (s : Seated Phase). s.number)) ∙ (sym (length_permutation (map (λ (s : Seated Phase). s.number) c.args.seats.items) (numbers_below n) c.requires.all) ∙ length-range_with_len 0 n)
+pub close-requires-clause-settles : goal.close-requires-clause-settles
+close-requires-clause-settles c = settles

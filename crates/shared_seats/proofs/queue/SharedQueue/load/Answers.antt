@@ -8,7 +8,7 @@ pub load-requires-clause-rule : goal.load-requires-clause-rule
 load-requires-clause-rule g c =
     let h = c.seat.inside.seat.view in let holds = g.P.Phase.Holds in let knows = g.M.Memory.Knows in let fact = g.F.LoadFact.then in let i = c.args.index in
     let shape = ap (λ s. s.of.shape) c.seat.view_is ∙ ap (λ q. q.shape) c.requires.seat in
-    loads g.P.Phase.table holds knows g.M.Memory.none c.seats.ensures.order c.lasts.ensures c.self.inside.words.key h i fact c.seat.invariant.0
+    loads g.P.Phase.table holds knows g.M.Memory.none c.seat.inside.number c.self.inside.words.key h i fact c.seat.invariant.0
     (subst (λ s. KeepsMemory holds knows h.shape s.view s.memory i (fact h.shape s.view s.memory)) (sym c.seat.view_is)
     (subst (λ k. KeepsMemory holds knows k c.args.seat.now.view c.args.seat.now.memory i (fact k c.args.seat.now.view c.args.seat.now.memory)) (sym shape) c.requires.keeps))
 

@@ -15,9 +15,9 @@ puts_after-seat-inside-requires g c =
 pub invariant_of-seat : goal.invariant_of-seat
 invariant_of-seat g c = let r = c.run_put-result.ensures in
     let kept = (unmoved g.P.Phase.table g.P.CallPhase.drops _ _ _ _ _ c.run_put-result.ensures.steps.2) in
-    (still_held g.M.Memory.none c.seat.inside.seat.view c.run_put-result.new.seat.view c.seat.invariant.0 r.sits kept, r.view.rest, c.puts_after-seat-inside.ensures ∙ (ap (λ n. n + puts_by c.run_put-result.result) c.seat.invariant.2 ∙ sym (put_counts _ _ _ c.run_put-result.result r.view.made)), c.seat.invariant.3 ∙ ap (λ l. min (length l) (2 ^ 64 - 1)) (sym r.view.taken))
+    (still_held g.M.Memory.none c.seat.inside.number c.seat.inside.seat.view c.run_put-result.new.seat.view c.seat.invariant.0 r.sits.0 kept, r.view.rest, c.puts_after-seat-inside.ensures ∙ (ap (λ n. n + puts_by c.run_put-result.result) c.seat.invariant.2 ∙ sym (put_counts _ _ _ c.run_put-result.result r.view.made)), c.seat.invariant.3 ∙ ap (λ l. min (length l) (2 ^ 64 - 1)) (sym r.view.taken))
 
 pub returns-clause-memory : goal.returns-clause-memory
 returns-clause-memory g c =
     let kept = (unmoved g.P.Phase.table g.P.CallPhase.drops _ _ _ _ _ c.run_put-result.ensures.steps.2) in
-    same_memory g.M.Memory.none c.seat.inside.seat.view c.run_put-result.new.seat.view c.seat.invariant.0 c.run_put-result.ensures.sits kept ∙ ap (λ s. s.memory) c.seat.view_is
+    same_memory g.M.Memory.none c.seat.inside.number c.seat.inside.seat.view c.run_put-result.new.seat.view c.seat.invariant.0 c.run_put-result.ensures.sits.0 kept ∙ ap (λ s. s.memory) c.seat.view_is

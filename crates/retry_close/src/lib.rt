@@ -1,0 +1,6 @@
+//! How a queue that refuses when full is closed, and what it had then.
+#![tactic(auto)]
+
+mod settled;
+
+pub use settled::{SettledQueue, close};

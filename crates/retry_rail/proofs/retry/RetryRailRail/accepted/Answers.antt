@@ -1,7 +1,0 @@
-use Rattle.std.proofs.Common.{◌∙◌, ap, length, sym}
-use Rattle.std.proofs.lemmas.List.FromFn.{length-map-range_with_len}
-use Rattle.shared_seats.specs.Seats.{item_at, made_by_all}
-use Rattle.retry_rail.proofs.retry.RetryRailRail.accepted.Goals as goal
-
-pub returns : goal.returns
-returns c = let made = made_by_all c.done.inside.seats.value.items in c.done.invariant ∙ sym (length-map-range_with_len (item_at made) 0 (length made)) ∙ ap (λ d. length d.accepted) c.done.view_is
