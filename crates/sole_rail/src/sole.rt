@@ -1,0 +1,200 @@
+//! The queue.
+ghost use Rattle.std.specs.Prelude.{◌≡◌, ℕ, ◌<◌, ◌==◌, List, [], Some, IfErr, IfOk, IsPermutation, false, true, flat_map, length, map};
+ghost use Rattle.std.specs.List.{All};
+ghost use Rattle.cursor_word.specs.Cursor.{most_puts};
+ghost use Rattle.rail.specs.Items.{IsRising, places};
+ghost use Rattle.rail.specs.Outcome.{DropOutcome, IsAccepted, RetryOutcome, numbers_below};
+ghost use Rattle.rail.specs.Rail.{Puts, Takes};
+ghost use Rattle.rail.specs.declared.answer.Answer.TheVariants as answer;
+ghost use Rattle.step_log.specs.declared.log.Step.{Step};
+ghost use Rattle.sole_core.specs.Table.{consumer, table};
+ghost use Rattle.sole_core.specs.declared.phase.SolePhase.{SolePhase};
+ghost use Rattle.call_steps.specs.Call.{TookSteps};
+ghost use Rattle.call_steps.specs.Queue.{IsFresh, IsSeatOf, Queue, Seated};
+ghost use Rattle.sole_rail.specs.Consumer.{IsConsumerOf, IsUnmoved};
+
+use cursor_word::Shape;
+use rail::{Batch, Put, Rail, Refused, Take};
+use retry_close::{SettledQueue, close};
+use shared_seats::{SharedQueue, SharedSeat};
+use sole_core::{SolePhase, next_cursor, sole_take_at};
+use std::alloc::{AllocError, Global};
+use std::marker::Model;
+
+/// The token with which one caller puts, and the consumer takes.
+pub type SoleSeat = SharedSeat<SolePhase, ()>;
+
+/// A seat that may be the consumer's.
+pub trait Consuming {
+    /// Whether the seat takes: the first of a queue does, and no other.
+    fn takes(&self) -> bool;
+}
+
+impl Consuming for SoleSeat {
+    fn takes(&self) -> bool
+        ensures { result ≡ (self.now.number == consumer) }
+    {
+        self.number() == 0
+    }
+}
+
+/// A queue that refuses entries when it is full. Each of its seats may be used from a thread of its
+/// own; each puts, and the first alone takes.
+#[derive(Drop)]
+pub struct SoleRail {
+    queue: SharedQueue<SolePhase, ()>,
+}
+
+impl Model for SoleRail {
+    ghost use Rattle.call_steps.specs.Queue.{Queue};
+
+    ghost Value = { Queue };
+
+    ghost view = { λ r. r.queue };
+}
+
+/// What a closed `SoleRail` had.
+pub type SoleDone = SettledQueue<SolePhase>;
+
+impl SoleRail {
+    /// A queue of this shape, and all its seats. None of them has made or taken anything.
+    pub fn make(alloc: Global, shape: Shape) -> Result<(SoleRail, Vec<SoleSeat>), AllocError>
+        ensures shape { IfOk result (λ r. r.0.shape ≡ shape) }
+        ensures numbers { IfOk result (λ r. map (λ s. s.number) r.1.items
+            ≡ numbers_below shape.seats) }
+        ensures fresh { IfOk result (λ r. All (IsFresh r.0) r.1.items) }
+    {
+        let (queue, seats) = SharedQueue::<SolePhase, ()>::make(alloc, shape)?;
+        Ok((SoleRail { queue }, seats))
+    }
+}
+
+impl Rail for SoleRail {
+    ghost use Rattle.std.specs.Prelude.{◌≡◌, false};
+    ghost use Rattle.cursor_word.specs.Shape.{most_seats};
+    ghost use Rattle.call_steps.specs.Queue.{IsSeatOf, told_of};
+    ghost use Rattle.sole_rail.specs.Consumer.{IsConsumerOf};
+
+    type Seat = SoleSeat;
+
+    type Done = SoleDone;
+
+    const MOST_SEATS: u64 = cursor_word::MOST_SEATS;
+
+    const DROPS: bool = false;
+
+    ghost MOST_SEATS = { most_seats };
+
+    ghost DROPS = { false };
+
+    ghost shape_of = { λ q. q.shape };
+
+    ghost PutsInto = { IsSeatOf };
+
+    ghost TakesFrom = { IsConsumerOf };
+
+    ghost number_of = { λ s. s.number };
+
+    ghost made = { λ s. s.view.made };
+
+    ghost taken = { λ s. s.view.taken };
+
+    ghost told = { told_of };
+
+    ghost done_shape = { λ d. d.shape };
+
+    ghost done_accepted = { λ d. d.accepted };
+
+    ghost done_taken = { λ d. d.taken };
+
+    ghost done_left = { λ d. d.left };
+
+    fn shape(&self) -> Shape {
+        self.queue.shape()
+    }
+
+    /// Puts an entry, by the machine's steps and no other.
+    fn put(&self, seat: &mut SoleSeat, entry: &[u64]) -> Put
+        requires seat { IsSeatOf self.now seat.old }
+        requires width { length entry.now ≡ self.now.shape.width }
+        requires room { length seat.old.view.made < most_puts self.now.shape }
+        ensures seat { (rail : Queue) → IsSeatOf rail seat.old → IsSeatOf rail seat.new }
+        ensures takes { (rail : Queue) → IsConsumerOf rail seat.old → IsConsumerOf rail seat.new }
+        ensures number { seat.new.number ≡ seat.old.number }
+        ensures taken { seat.new.view.taken ≡ seat.old.view.taken }
+        ensures answer { Puts self.now.shape false entry.now seat.old.view.made seat.new.view.made
+            seat.new.view.trail result }
+        ensures told { seat.new.view.answer ≡ Some (answer.Put result) }
+        ensures steps { (steps : List Step)
+            × TookSteps table self.now.shape entry.now table.first_put steps (answer.Put result)
+            seat.new.view.trail seat.old.log seat.new.log }
+    {
+        self.queue.put(seat, entry)
+    }
+
+    /// Takes an entry, by the machine's steps and no other. Its caller has the consumer's seat, so
+    /// nothing moves while it looks.
+    fn take(&self, seat: &mut SoleSeat, out: &mut [u64]) -> Take
+        requires seat { IsConsumerOf self.now seat.old }
+        requires width { length out.old ≡ self.now.shape.width }
+        ensures seat { (rail : Queue) → IsConsumerOf rail seat.old → IsConsumerOf rail seat.new }
+        ensures puts { (rail : Queue) → IsSeatOf rail seat.old → IsSeatOf rail seat.new }
+        ensures number { seat.new.number ≡ seat.old.number }
+        ensures made { seat.new.view.made ≡ seat.old.view.made }
+        ensures answer { Takes self.now.shape false seat.new.view.made out.old out.new
+            seat.old.view.taken seat.new.view.taken seat.new.view.trail result }
+        ensures told { seat.new.view.answer ≡ Some (answer.Take result) }
+        ensures unmoved { IsUnmoved result }
+        ensures steps { (steps : List Step)
+            × TookSteps table self.now.shape []
+            (table.first_take self.now.shape seat.old.view.taken) steps (answer.Take result)
+            seat.new.view.trail seat.old.log seat.new.log }
+    {
+        let next = next_cursor(&self.queue.shape(), seat.taken());
+        self.queue.take(seat, sole_take_at(next), out)
+    }
+
+    fn close(
+        self,
+        alloc: Global,
+        seats: Vec<Self::Seat>,
+    ) -> Result<Self::Done, Refused<Self, Self::Seat>>
+        requires seats { All (IsSeatOf self) seats.items }
+        requires all { IsPermutation (map (λ (s : Seated SolePhase). s.number) seats.items)
+            (numbers_below self.shape.seats) }
+        ensures shape { IfOk result (λ done. done.shape ≡ self.shape) }
+        ensures accepted { IfOk result
+            (λ done. IsAccepted (flat_map (λ (s : Seated SolePhase). s.view.made) seats.items)
+            done.accepted) }
+        ensures taken { IfOk result
+            (λ done. IsPermutation (flat_map (λ (s : Seated SolePhase). s.view.taken) seats.items)
+            done.taken) }
+        ensures order { IfOk result (λ done. IsRising (places done.taken)) }
+        ensures retry { false ≡ false
+            → IfOk result (λ done. RetryOutcome done.accepted done.taken done.left) }
+        ensures drop { false ≡ true
+            → IfOk result (λ done. DropOutcome done.shape done.accepted done.taken done.left) }
+        ensures refused { IfErr result (λ refused. (refused.rail ≡ self)
+            × (refused.seats.items ≡ seats.items)) }
+    {
+        match close(self.queue, alloc, seats) {
+            Ok(done) => Ok(done),
+            Err(Refused { rail, seats }) => Err(Refused {
+                rail: SoleRail { queue: rail },
+                seats,
+            }),
+        }
+    }
+
+    fn puts(seat: &SoleSeat) -> u64 {
+        seat.puts()
+    }
+
+    fn accepted(done: &SoleDone) -> u64 {
+        done.accepted()
+    }
+
+    fn left(done: &SoleDone) -> &Batch {
+        done.left()
+    }
+}
