@@ -1,7 +1,7 @@
 -- The words of an entry are read one after another, into the buffer and into what the seat remembers.
 use Rattle.std.proofs.Common.{◌≡◌, ◌⊎◌, ℕ, ◌+◌, ◌/◌, ◌<◌, ◌≤◌, ◌≢◌, List, [], ◌∷◌, ◌++◌, append_assoc, length, length-append, refl, sym, ap, ◌∙◌, subst, inl, inr, ⊎_elim, arith}
 use Rattle.std.specs.Prelude.{Option, Some, None, if◌then◌else◌, nat_lt, slice_set, take}
-use Rattle.std.proofs.lemmas.List.{length-set, length-take, take_all, take_more_set}
+use Rattle.std.proofs.lemmas.List.{length-set, length-take, take-append-le, take_all, take_more_set}
 use Rattle.cursor_word.specs.Shape.{Grid}
 use Rattle.cursor_word.specs.Cursor.{offset_span, unpacked}
 use Rattle.cursor_word.specs.declared.cursor.Cursor.{Cursor}
@@ -131,6 +131,10 @@ module _ (g : Grid) where
 
     pub looked_is : last.memory.looked ≡ looked_after g old.memory.looked (Check at) out (after.Entry answer)
     looked_is = ap (λ (s : Looker). s.memory.looked) is ∙ ap (looked_after g now.memory.looked (Check at) (found_before g now.memory (Check at))) follows ∙ ap (λ (l : List ℕ). looked_after g now.memory.looked (Check at) l (after.Entry answer)) read_is ∙ ap (λ (l : List Placed). looked_after g l (Check at) out (after.Entry answer)) r.looked
+
+    -- the words in the buffer are the first values that were found
+    pub words_are : out ≡ take g.width last.memory.look_trail
+    words_are = sym (ap (take g.width) found_is ∙ ap (λ (l : List ℕ). take g.width (l ++ n ∷ [])) all_out ∙ take-append-le g.width out (n ∷ []) (let l = r.long in omega arith) ∙ all_out)
 
     pub looking_is : last.memory.looking ≡ old.memory.looking
     looking_is = ap (λ (s : Looker). s.memory.looking) is ∙ ap (looking_after now.memory.looking) follows ∙ r.looking

@@ -1,5 +1,5 @@
 //! Looks: readings that take nothing.
-ghost use Rattle.std.specs.Prelude.{◌≡◌, ◌<◌, ◌≤◌, [], ◌∷◌, ◌++◌, Some, length, slice_index};
+ghost use Rattle.std.specs.Prelude.{◌≡◌, ◌<◌, ◌≤◌, [], ◌∷◌, ◌++◌, Some, length, slice_index, take};
 ghost use Rattle.step_log.specs.Log.{loaded};
 ghost use Rattle.call_steps.specs.Queue.{IsSeatOf};
 ghost use Rattle.block_looks.specs.declared.look.LookAfter.TheVariants as after;
@@ -137,6 +137,7 @@ impl DropRail {
             (after.Entry result) }
         ensures looking { seat.new.memory.looking ≡ seat.old.memory.looking }
         ensures look_at { seat.new.memory.look_at ≡ Some at }
+        ensures words { out.new ≡ take self.now.shape.width seat.new.memory.look_trail }
         ensures shown { LookShows self.now.shape seat.new.view.made (phase.Check at) out.new
             (after.Entry result) }
     {

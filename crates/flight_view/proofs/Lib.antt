@@ -1,0 +1,4 @@
+pub mod Gathered
+pub mod Entries
+pub mod Blocks
+pub mod Walked
