@@ -10,6 +10,8 @@ mod generated;
 #[cfg(test)]
 mod hands;
 #[cfg(test)]
+mod long_traces;
+#[cfg(test)]
 mod outside;
 #[cfg(test)]
 mod read_traces;
