@@ -1,5 +1,5 @@
 #!/usr/bin/env bash
-# Times the word count against wc -w and a pipeline of tr, sort and uniq on two texts, compares what they count, and prints the ratios of the
+# Times the word count against wc -w, a pipeline of tr, sort and uniq and, where rustc is there, plain Rust with one thread and with four, on two texts; compares what they count, and prints the ratios of the
 # least times: of three runs each, and of twenty of the program on the first text. What the spans cost is the ratio to a run over the same text in few pieces. Last it times the first text once more, read by one worker and made by --generate.
 set -eu
 top=$(cd "$(dirname "$0")/.." && pwd)
@@ -39,6 +39,26 @@ least() {
     echo $((best > 0 ? best : 1))
 }
 
+plain=
+if command -v rustc >/dev/null; then
+    rustc -C opt-level=3 -o plain_count "$top/bench/plain_count.rs"
+    plain=./plain_count
+fi
+
+# plain Rust and the program with one thread and with four, in turn
+beside_plain() {
+    "$plain" 4 "$1" | cmp -s - counts || {
+        echo "count.sh: plain Rust counts otherwise in $1" >&2
+        exit 1
+    }
+    for threads in 1 4; do
+        ours=$(least "$2" "$top/crates/bbq_profile/out/bbq_profile" --workers "$threads" "$1")
+        rust=$(least "$2" "$plain" "$threads" "$1")
+        awk -v t="$1" -v n="$threads" -v o="$ours" -v r="$rust" 'BEGIN {
+            printf "%s: %d threads: bbq-profile %d ms, plain Rust %d ms; to plain Rust %.2f\n", t, n, o, r, o / r }'
+    done
+}
+
 for text in few.txt many.txt; do
     for options in "" "--workers 1 --piece 16777216"; do
         # shellcheck disable=SC2086
@@ -55,6 +75,7 @@ for text in few.txt many.txt; do
     few=$(least "$runs" "$top/crates/bbq_profile/out/bbq_profile" --workers 1 --piece 16777216 "$text")
     awk -v t="$text" -v o="$ours" -v w="$wc" -v p="$pipe" -v f="$few" 'BEGIN {
         printf "%s: bbq-profile %d ms, in few pieces %d ms, wc -w %d ms, pipeline %d ms; to few pieces %.3f, to wc -w %.2f, pipeline to bbq-profile %.1f\n", t, o, f, w, p, o / f, o / w, p / o }'
+    [ -z "$plain" ] || beside_plain "$text" "$runs"
 done
 
 # the first text again, read and made

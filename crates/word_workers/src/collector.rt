@@ -10,6 +10,12 @@ use span_recorder::collect_one;
 use span_words::SPAN_WORDS;
 use std::alloc::{AllocError, Global};
 use std::sync::Wait;
+use std::thread::Parker;
+use std::time::Duration;
+
+/// How long the collector sleeps while nothing comes. Meanwhile a worker that finds the queue full
+/// takes from it.
+const PAUSE_MICROSECONDS: u64 = 200;
 
 /// What the collector took, and its seats.
 #[derive(Drop)]
@@ -52,12 +58,15 @@ pub fn collect<R: Rail>(
         return Ok(done);
     }
     let backoff = Backoff::new();
+    let parker = Parker::new();
+    let pause = Duration::from_micros(PAUSE_MICROSECONDS);
     for _ in rt.forever() {
         if claim.ended(&mut done.claim_seat) == workers {
             break;
         }
         match collect_one(alloc, rail, &mut done.seat, &mut done.batch)? {
             Take::Ok(_) => backoff.reset(),
+            _ if backoff.is_completed() => parker.park_timeout(rt, pause),
             _ => backoff.snooze(),
         }
     }
