@@ -1,5 +1,5 @@
 //! Drawing numbers, each once.
-ghost use Rattle.std.specs.Prelude.{◌≡◌, ℕ, ◌+◌, ◌<◌, ◌≤◌, [], ◌∷◌, true, false, if◌then◌else◌, Option, Some, None, IfSome, IfNone, IfOk, All, Any, IsPermutation, flat_map, vec_len, length};
+ghost use Rattle.std.specs.Prelude.{◌≡◌, ℕ, ◌+◌, ◌^◌, ◌<◌, ◌≤◌, [], ◌∷◌, true, false, if◌then◌else◌, Option, Some, None, IfSome, IfNone, IfOk, All, Any, IsPermutation, flat_map, vec_len, length};
 ghost use Rattle.std.specs.List.{range_with_len, list_any};
 ghost use Rattle.std.specs.List.Sorted.{IsStrictlyIncreasing};
 ghost use Rattle.claim_table.specs.Claimed.{Claimant, Drawing, share, drew, found_end, marked, looked, IsFresh, one_if};
@@ -61,8 +61,8 @@ impl Claim {
         pieces: u64,
         seats: u64,
     ) -> Result<(Claim, Vec<ClaimSeat>), AllocError>
-        requires pieces { pieces ≤ 1048576 }
-        requires seats { (0 < seats) × (seats ≤ 256) }
+        requires seats { 0 < seats }
+        requires room { pieces + seats < 2 ^ 64 }
         ensures shape { IfOk result (λ r. r.0.shape ≡ record { pieces = pieces; seats = seats }) }
         ensures count { IfOk result (λ r. vec_len r.1 ≡ seats) }
         ensures fresh { IfOk result (λ r. All (IsFresh r.0) r.1.items) }
