@@ -1,6 +1,6 @@
 -- A block is looked at, and then its entries.
-use Rattle.std.proofs.Common.{◌≡◌, ℕ, ◌/◌, ◌<◌, List, [], ◌∷◌, ◌++◌, true, false, length, refl, sym, ap, subst, ◌∙◌, inl, inr, ⊎_elim, arith}
-use Rattle.std.specs.Prelude.{Contains, Err, IfOk, OnErr, Ok, Option, Result, if◌then◌else◌, map, option_to_list}
+use Rattle.std.proofs.Common.{◌≡◌, ℕ, ◌/◌, ◌<◌, List, [], ◌∷◌, ◌++◌, Bool, true, false, length, refl, sym, ap, subst, ◌∙◌, inl, inr, ⊎_elim, arith}
+use Rattle.std.specs.Prelude.{Contains, Err, IfOk, IfSome, OnErr, Ok, None, Option, Some, Result, if◌then◌else◌, ◌==◌, ◌&&◌, ◌||◌, map, option_to_list}
 use Rattle.std.specs.declared.alloc.AllocError.{AllocError}
 use Rattle.std.proofs.lemmas.List.{append-nil, get_or-map, length-map}
 use Rattle.std.proofs.lemmas.List.Elements.{All-contains, All-nil}
@@ -17,12 +17,12 @@ use Rattle.block_looks.specs.declared.look.Look.{Look}
 use Rattle.block_looks.specs.declared.look.Look.TheVariants as look
 use Rattle.block_looks.specs.Table.{look_of}
 use Rattle.block_looks.specs.Shown.{AreBefore, AreWithin, LookLeads}
-use Rattle.block_looks.proofs.Wholes.{pick_whole}
+use Rattle.drop_core.proofs.Loads.{by_equal}
 use Rattle.drop_rail.specs.Looking.{HasLooked, Looker}
 use Rattle.flight_view.specs.declared.gaps.Gap.{Gap}
 use Rattle.flight_view.specs.Walks.{AreEntryLooks, BlockLook, block_gaps, block_items, block_loads, gap, reused_in}
-use Rattle.flight_view.specs.Views.{HasSeen}
-use Rattle.flight_view.specs.Parts.{EntriesEnd, Gathers, SawBlock, SawEntries, midway}
+use Rattle.flight_view.specs.Views.{HasSeen, IsCaused}
+use Rattle.flight_view.specs.Parts.{EntriesEnd, Gathers, IsOneAtMost, SawBlock, SawEntries, midway}
 use Rattle.flight_view.proofs.Gathered.{seen_look, seen_on}
 
 -- the place of an item of a list is among the list's places
@@ -31,28 +31,42 @@ place_in items item h =
     let n = length-map items (λ (i : Placed). i.place) in
     (h.0, omega (arith, h.1), get_or-map (λ (i : Placed). i.place) items h.0 item item.place h.1 ∙ ap (λ (i : Placed). i.place) h.2)
 
--- where a look found a block whole, its committed cursor is of the block, with the count
-abbrev IsWholeOf : ℕ → LookAfter → Type 0
-IsWholeOf k (after.Block (look.Whole n c a)) = (c.block ≡ k) × (c.offset ≡ n)
-IsWholeOf k other = Unit {0}
+-- what the answer of a look at a block says of its cursors
+abbrev IsTold : ℕ → LookAfter → Type 0
+IsTold k (after.Block (look.Whole n c a)) = (c.block ≡ k) × (c.offset ≡ n)
+IsTold k (after.Block (look.Gap c a)) = IsCaused (gap k c a)
+IsTold k other = Unit {0}
 
-block_is : (g : Grid) (k : ℕ) (c a : Cursor) → IsWholeOf k (after.Block (look_of g k c a))
-block_is g k c a = pick_whole g k c a (λ l. IsWholeOf k (after.Block l)) (λ w. (w.committed, refl)) tt
+told_of_both : (g : Grid) (k : ℕ) (c a : Cursor) → IsTold k (after.Block (look_of g k c a))
+told_of_both g k c a =
+    let inner : Bool → Look = λ b. if b then look.Whole c.offset c a else look.Gap c a in
+    by_equal c.block k (λ b. IsTold k (after.Block (if b && (a.block == k) then inner ((c.offset == g.size) || (a.offset == c.offset)) else look.Gap c a)))
+    (λ own. by_equal a.block k (λ b. IsTold k (after.Block (if b then inner ((c.offset == g.size) || (a.offset == c.offset)) else look.Gap c a)))
+    (λ e. by_equal c.offset g.size (λ b. IsTold k (after.Block (inner (b || (a.offset == c.offset)))))
+    (λ full. (own, refl))
+    (λ n. by_equal a.offset c.offset (λ b. IsTold k (after.Block (inner b))) (λ same. (own, refl)) (λ other. inl (λ q. other (ap (λ (z : Cursor). z.offset) (sym q))))))
+    (λ other. inl (λ q. other (ap (λ (z : Cursor). z.block) (sym q) ∙ own))))
+    (λ other. inr other)
 
-led_from_all : (g : Grid) (k : ℕ) (c : Cursor) (found : List ℕ) (answer : LookAfter) → LookLeads g (after.Next (AllOf k c)) found answer → IsWholeOf k answer
-led_from_all g k c [] answer e = subst (IsWholeOf k) e tt
-led_from_all g k c (x ∷ []) answer e = subst (IsWholeOf k) e (block_is g k c (unpacked x))
-led_from_all g k c (x ∷ y ∷ ys) answer e = absurd e
+told_from_all : (g : Grid) (k : ℕ) (c : Cursor) (found : List ℕ) (answer : LookAfter) → LookLeads g (after.Next (AllOf k c)) found answer → IsTold k answer
+told_from_all g k c [] answer e = subst (IsTold k) e tt
+told_from_all g k c (x ∷ []) answer e = subst (IsTold k) e (told_of_both g k c (unpacked x))
+told_from_all g k c (x ∷ y ∷ ys) answer e = absurd e
 
-led_from_unopened : (g : Grid) (k : ℕ) (c : Cursor) (found : List ℕ) (answer : LookAfter) → LookLeads g (after.Block (look.Unopened c)) found answer → IsWholeOf k answer
-led_from_unopened g k c [] answer e = subst (IsWholeOf k) e tt
-led_from_unopened g k c (x ∷ xs) answer e = absurd e
+told_from_unopened : (g : Grid) (k : ℕ) (c : Cursor) (found : List ℕ) (answer : LookAfter) → LookLeads g (after.Block (look.Unopened c)) found answer → IsTold k answer
+told_from_unopened g k c [] answer e = subst (IsTold k) e tt
+told_from_unopened g k c (x ∷ xs) answer e = absurd e
 
-pub whole_is : (g : Grid) (k : ℕ) (found : List ℕ) (answer : LookAfter) → LookLeads g (after.Next (Com k)) found answer → IsWholeOf k answer
-whole_is g k [] answer e = subst (IsWholeOf k) e tt
-whole_is g k (x ∷ xs) answer e =
-    by_test (x / offset_span) k (λ b. LookLeads g (if b then after.Block (look.Unopened (unpacked x)) else after.Next (AllOf k (unpacked x))) xs answer → IsWholeOf k answer)
-    (λ l. led_from_unopened g k (unpacked x) xs answer) (λ l. led_from_all g k (unpacked x) xs answer) e
+pub told : (g : Grid) (k : ℕ) (found : List ℕ) (answer : LookAfter) → LookLeads g (after.Next (Com k)) found answer → IsTold k answer
+told g k [] answer e = subst (IsTold k) e tt
+told g k (x ∷ xs) answer e =
+    by_test (x / offset_span) k (λ b. LookLeads g (if b then after.Block (look.Unopened (unpacked x)) else after.Next (AllOf k (unpacked x))) xs answer → IsTold k answer)
+    (λ l. told_from_unopened g k (unpacked x) xs answer) (λ l. told_from_all g k (unpacked x) xs answer) e
+
+-- the gaps of a block whose looks found at most one later block in its place
+one_gap : (k : ℕ) (c : Cursor) → c.block ≡ k → (causes : List Cursor) (reused : Option Cursor) → causes ≡ option_to_list reused → IfSome reused (λ now. k < now.block) → IsOneAtMost k (map (gap k c) causes)
+one_gap k c own causes None e l = inl (ap (map (gap k c)) e)
+one_gap k c own causes (Some now) e l = inr (gap k c now, ap (map (gap k c)) e, refl, inl (λ q. let b = ap (λ (z : Cursor). z.block) q in omega arith))
 
 -- a block with a gap is among the blocks of the gaps
 some_gap : (k : ℕ) (c : Cursor) (causes : List Cursor) → 0 < length causes → Contains (map (λ (x : Gap). x.block) (map (gap k c) causes)) k
@@ -78,6 +92,7 @@ module _ (g : Grid) (k : ℕ) (old new : Looker) (items : List Placed) (gaps : L
         items_on = sym (append-nil items);
         gaps_on = sym (append-nil gaps);
       };
+      one = inl refl;
       ends = ((c, refl), before);
     }
 
@@ -92,6 +107,7 @@ module _ (g : Grid) (k : ℕ) (old new : Looker) (items : List Placed) (gaps : L
         items_on = sym (append-nil items);
         gaps_on = is;
       };
+      one = inr (gap k c a, refl, refl, told g k new.memory.look_trail (after.Block (look.Gap c a)) did.steps.leads);
       ends = (record { opened = λ m e. cc; through = inl refl }, λ item h from to. inr (0, omega arith, omega arith));
     }
 
@@ -116,6 +132,7 @@ module _ (g : Grid) (k : ℕ) (old new : Looker) (items : List Placed) (gaps : L
           at = refl;
           is = record { leads = did.steps.leads; entries = saw.looks };
           gathers = both gaps (sym (append-nil gaps) ∙ ap (λ (l : List Cursor). gaps ++ map (gap k c) l) (sym none));
+          one = inl (ap (map (gap k c)) none);
           ends = tt;
         }
 
@@ -128,6 +145,7 @@ module _ (g : Grid) (k : ℕ) (old new : Looker) (items : List Placed) (gaps : L
           at = refl;
           is = record { leads = did.steps.leads; entries = saw.looks };
           gathers = both more (is ∙ ap (λ (l : List Cursor). gaps ++ map (gap k c) l) (sym end.0));
+          one = one_gap k c (told g k new.memory.look_trail (after.Block (look.Whole n c a)) did.steps.leads).0 (reused_in saw.entries) reused end.0 end.2;
           ends = (
             record { opened = λ m q. cc; through = ⊎_elim (λ l. inr l) (λ all. inl all.0) end.1 },
             λ item h from to.

@@ -33,6 +33,7 @@ saw_whole_entry g old new at out did looked looking words shown = record {
   seen = seen_look g old new (Word at 0) _ _ did (looked ∙ ap (λ (l : List ℕ). old.memory.looked ++ placed (place_at g at) l ∷ []) words);
   looking = looking;
   own = λ mine has e. (0, omega arith, ap (placed (place_at g at)) (sym (shown mine has ∙ words)));
+  later = λ now e. cc;
 }
 
 module _ (g : Grid) (counted : Cursor) where
@@ -156,7 +157,7 @@ module _ (g : Grid) (counted : Cursor) where
               whole = subst (All (λ (x : EntryLook). x.answer ≡ seen.Whole)) (sym (but_last_push r.entries e)) r.whole;
             };
             gathers = gathers_push;
-            ends = (causes, inl (let n = ap length causes in omega arith));
+            ends = (causes, inl (let n = ap length causes in omega arith), let l = saw.later cause is in let b = ap (λ (k : Cursor). k.block) at in omega arith);
             whole = tt;
           }
 
@@ -175,7 +176,7 @@ module _ (g : Grid) (counted : Cursor) where
       entries = r.entries;
       looks = looks_so_far (omega arith);
       gathers = r.gathers;
-      ends = (r.none, inr (r.long ∙ e, subst (λ (n : ℕ). OwnAreFound g counted.block n now.seat.view.made (flat_map (entry_items g) r.entries)) e r.own));
+      ends = (r.none, inr (r.long ∙ e, subst (λ (n : ℕ). OwnAreFound g counted.block n now.seat.view.made (flat_map (entry_items g) r.entries)) e r.own), tt);
       whole = tt;
     }
 

@@ -1,11 +1,11 @@
 -- Blocks are looked at one after another.
 use Rattle.std.proofs.Common.{◌≡◌, ℕ, ◌+◌, ◌-◌, ◌*◌, ◌<◌, ◌≤◌, List, [], ◌∷◌, ◌++◌, Bool, true, false, length, length-append, refl, sym, ap, subst, ◌∙◌, inl, inr, ⊎_elim, arith}
-use Rattle.std.specs.Prelude.{All, Contains, Err, Ok, flat_map, map}
+use Rattle.std.specs.Prelude.{All, Contains, Err, Ok, Result, flat_map, map}
 use Rattle.std.specs.List.{range_with_len}
 use Rattle.std.specs.declared.alloc.AllocError.{AllocError}
 use Rattle.std.proofs.lemmas.Bool.{cases_lt}
 use Rattle.std.proofs.lemmas.List.{append-nil, map-append, map-id, map_push}
-use Rattle.std.proofs.lemmas.List.Elements.{All-contains, All-nil, All-push, All-take, Contains-append_left, Contains-append_right, Contains-push}
+use Rattle.std.proofs.lemmas.List.Elements.{All-contains, All-nil, All-push, All-take, All-weaker, Contains-append_left, Contains-append_right, Contains-push}
 use Rattle.std.proofs.lemmas.List.FromFn.{map-range_with_len_more}
 use Rattle.std.proofs.Math.Nat.{mul-le-mul_right}
 use Rattle.cursor_word.specs.Shape.{Grid}
@@ -13,7 +13,8 @@ use Rattle.cursor_word.specs.Cursor.{cursor_of, first_of}
 use Rattle.cursor_word.specs.declared.cursor.Cursor.{Cursor}
 use Rattle.cursor_word.proofs.Places.{place_of_cursor}
 use Rattle.rail.specs.declared.entry.Placed.{Placed}
-use Rattle.rail.specs.Items.{places}
+use Rattle.rail.specs.Items.{IsRising, places}
+use Rattle.rail.proofs.Rising.{rising_push}
 use Rattle.block_looks.specs.declared.look.LookPhase.TheVariants.{Head}
 use Rattle.block_looks.specs.declared.look.LookAfter.TheVariants as after
 use Rattle.block_looks.specs.declared.look.Look.{Look}
@@ -22,8 +23,8 @@ use Rattle.drop_rail.specs.Looking.{HasLooked, Looker}
 use Rattle.flight_view.specs.declared.gaps.Gap.{Gap}
 use Rattle.flight_view.specs.declared.walking.View.{View}
 use Rattle.flight_view.specs.Walks.{BlockLook, IsBlockLook, IsPassed, IsWalk, Walk, block_gaps, block_items, block_loads, end_block, first_block, walk_items, walk_loads}
-use Rattle.flight_view.specs.Views.{HasSeen, HasWalked, IsShown, ShowsBetween}
-use Rattle.flight_view.specs.Parts.{Gathers, IsInOrder, Midway, SawBlock, midway}
+use Rattle.flight_view.specs.Views.{HasSeen, HasWalked, IsCaused, IsShown, ShowsBetween, gap_blocks}
+use Rattle.flight_view.specs.Parts.{Gathers, IsInOrder, IsOneAtMost, Midway, SawBlock, midway}
 use Rattle.flight_view.proofs.Gathered.{but_last_push, flat_map_push, gathers_none, gathers_on, seen_look, seen_on}
 use Rattle.flight_view.proofs.Blocks.{place_in}
 
@@ -41,6 +42,29 @@ order_on first blocks b order at =
     ∙ ap (λ (n : ℕ). range_with_len first (length blocks) ++ n ∷ []) at
     ∙ range_more first (length blocks)
     ∙ ap (range_with_len first) (sym (length-append blocks (b ∷ [])))
+
+-- the blocks of these gaps rise, and come before a block; and each gap has its cause
+pub record AreGapsInOrder (gaps : List Gap) (block : ℕ) : Type 0 where
+  pub rising : IsRising (gap_blocks gaps)
+  pub before : All (λ k. k < block) (gap_blocks gaps)
+  pub caused : All IsCaused gaps
+
+-- the gaps stay in order with those of a block more
+pub gaps_rise : (gaps all more : List Gap) (block : ℕ) → all ≡ gaps ++ more → IsOneAtMost block more → AreGapsInOrder gaps block → AreGapsInOrder all (block + 1)
+gaps_rise gaps all more block is single o =
+    let later : All (λ k. k < block + 1) (gap_blocks gaps) = All-weaker (λ k. k < block) (λ k. k < block + 1) (λ k l. omega arith) (gap_blocks gaps) o.before in
+    ⊎_elim
+    (λ none. let same : all ≡ gaps = is ∙ ap (λ (m : List Gap). gaps ++ m) none ∙ append-nil gaps in
+    subst (λ (l : List Gap). AreGapsInOrder l (block + 1)) (sym same) (record { rising = o.rising; before = later; caused = o.caused }))
+    (λ one. let here : all ≡ gaps ++ one.0 ∷ [] = is ∙ ap (λ (m : List Gap). gaps ++ m) one.1 in
+    let blocks : gap_blocks (gaps ++ one.0 ∷ []) ≡ gap_blocks gaps ++ one.0.block ∷ [] = map_push (λ (x : Gap). x.block) gaps one.0 in
+    let at = one.2 in
+    subst (λ (l : List Gap). AreGapsInOrder l (block + 1)) (sym here) (record {
+      rising = subst IsRising (sym blocks) (rising_push (gap_blocks gaps) one.0.block o.rising (subst (λ (n : ℕ). All (λ k. k < n) (gap_blocks gaps)) (sym at) o.before));
+      before = subst (All (λ k. k < block + 1)) (sym blocks) (All-push (λ k. k < block + 1) (gap_blocks gaps) one.0.block later (omega arith));
+      caused = All-push IsCaused gaps one.0 o.caused one.3;
+    }))
+    single
 
 module _ (g : Grid) where
   -- what lies before a block's first place lies in an earlier block
@@ -74,6 +98,7 @@ module _ (g : Grid) where
     pub gathers : Gathers old now (flat_map (block_loads g) blocks) (flat_map (block_items g) blocks) (flat_map block_gaps blocks)
     pub shown : ShowsBetween g first block now.seat.view.made (flat_map (block_items g) blocks) (flat_map block_gaps blocks)
     pub in_order : IsInOrder g now.items block
+    pub gaps_in_order : AreGapsInOrder now.gaps block
 
   pub passed_none : (first : ℕ) (seat : Looker) → HavePassed first first (midway seat [] []) (midway seat [] [])
   passed_none first seat = record {
@@ -85,6 +110,7 @@ module _ (g : Grid) where
     gathers = gathers_none (midway seat [] []);
     shown = λ item h from to. absurd (omega arith);
     in_order = record { rising = tt; before = All-nil _ };
+    gaps_in_order = record { rising = tt; before = All-nil _; caused = All-nil _ };
   }
 
   module _ (first block : ℕ) (old now new : Midway) (r : HavePassed first block old now) where
@@ -125,8 +151,8 @@ module _ (g : Grid) where
           (subst (λ p. IsShown g (flat_map (block_items g) r.blocks ++ block_items g b) p item) (sym (flat_map_push block_gaps r.blocks b)) s))
           (cases_lt (cursor_of g item.place).block block)
 
-      pub pass_on : IsPassed b → ShowsBetween g b.block (b.block + 1) new.seat.view.made (block_items g b) (block_gaps b) → IsInOrder g new.items (block + 1) → HavePassed first (block + 1) old new
-      pass_on passed own in_order = record {
+      pub pass_on : IsOneAtMost block (block_gaps b) → IsPassed b → ShowsBetween g b.block (b.block + 1) new.seat.view.made (block_items g b) (block_gaps b) → IsInOrder g new.items (block + 1) → HavePassed first (block + 1) old new
+      pass_on single passed own in_order = record {
         blocks = blocks_on;
         looks = looks_on;
         order = order_on first r.blocks b r.order (at ∙ sym r.at);
@@ -135,13 +161,17 @@ module _ (g : Grid) where
         gathers = gathers_all;
         shown = shown_here own;
         in_order = in_order;
+        gaps_in_order = gaps_rise now.gaps new.gaps (block_gaps b) block one.gaps_on single r.gaps_in_order;
       }
+
+    pub gaps_after : (answer : Result Bool AllocError) → SawBlock g block now new answer → AreGapsInOrder new.gaps (block + 1)
+    gaps_after answer saw = gaps_rise now.gaps new.gaps (block_gaps saw.looks) block saw.gathers.gaps_on saw.one r.gaps_in_order
 
     -- by what a look at the block said
     pub passes_on : (opened : Bool) → opened ≡ true → SawBlock g block now new (Ok opened) → IsInOrder g new.items (block + 1) → HavePassed first (block + 1) old new
     passes_on opened is said in_order =
         let saw : SawBlock g block now new (Ok true) = subst (λ (b : Bool). SawBlock g block now new (Ok b)) is said in
-        pass_on saw.looks saw.at saw.is saw.gathers saw.ends.0 saw.ends.1 in_order
+        pass_on saw.looks saw.at saw.is saw.gathers saw.one saw.ends.0 saw.ends.1 in_order
 
   -- a walk, from its look at the head
   module _ (old start : Looker) (newest : Cursor) (did : HasLooked g old start Head (after.Head newest)) (kept : start.memory.looked ≡ old.memory.looked) where

@@ -1,5 +1,5 @@
 -- What a view shows, and what taking it does to its seat.
-use Rattle.std.specs.Prelude.{◌≡◌, ℕ, ◌<◌, ◌≤◌, ◌⊎◌, List, ◌++◌, Contains, Result, IfOk, map}
+use Rattle.std.specs.Prelude.{◌≡◌, ◌≢◌, ℕ, ◌<◌, ◌≤◌, ◌⊎◌, List, ◌++◌, Contains, Result, IfOk, map}
 use Rattle.std.specs.declared.alloc.AllocError.{AllocError}
 use Rattle.cursor_word.specs.Shape.{Grid}
 use Rattle.cursor_word.specs.Cursor.{cursor_of}
@@ -10,8 +10,8 @@ use Rattle.flight_view.specs.declared.gaps.Gap.{Gap}
 use Rattle.flight_view.specs.declared.walking.View.{View}
 use Rattle.flight_view.specs.Walks.{HasEnded, IsWalk, Walk, first_block, walk_gaps, walk_items, walk_loads}
 
--- Looks change nothing that puts and takes know of their seat: it did exactly these loads, and looked
--- at exactly these items besides.
+-- Looks change nothing that puts and takes know of their seat: it did exactly these loads, and
+-- looked at exactly these items besides.
 pub record HasSeen (old new : Looker) (loads : List Step) (items : List Placed)
     : Type 0 where
   pub of : new.of ≡ old.of
@@ -20,11 +20,13 @@ pub record HasSeen (old new : Looker) (loads : List Step) (items : List Placed)
   pub looked : new.memory.looked ≡ old.memory.looked ++ items
   pub log : new.log ≡ old.log ++ loads
 
+abbrev pub gap_blocks : List Gap → List ℕ
+gap_blocks gaps = map (λ (gap : Gap). gap.block) gaps
+
 -- an item is among these, or its block is among the gaps
 abbrev pub IsShown : Grid → List Placed → List Gap → Placed → Type 0
 IsShown shape items gaps item =
-    Contains items item
-    ⊎ Contains (map (λ (gap : Gap). gap.block) gaps) (cursor_of shape item.place).block
+    Contains items item ⊎ Contains (gap_blocks gaps) (cursor_of shape item.place).block
 
 -- so is each that was made from the one block on, before the other
 abbrev pub ShowsBetween : Grid → ℕ → ℕ → List Placed → List Placed → List Gap → Type 0
@@ -36,6 +38,10 @@ abbrev pub ShowsFrom : Grid → ℕ → List Placed → List Placed → List Gap
 ShowsFrom shape first made items gaps =
     (item : Placed) → Contains made item → first ≤ (cursor_of shape item.place).block
     → IsShown shape items gaps item
+
+-- why a block is a gap: the two cursors differ, or are of another block
+abbrev pub IsCaused : Gap → Type 0
+IsCaused gap = (gap.committed ≢ gap.allocated) ⊎ (gap.committed.block ≢ gap.block)
 
 -- the view of a walk that came to its end, where the own seat has made these items
 pub record IsViewOf (shape : Grid) (walk : Walk) (made : List Placed) (view : View)

@@ -39,12 +39,12 @@ pub record Walk : Type 0 where
 
 -- their loads, in order
 abbrev pub entry_loads : Grid → EntryLook → List Step
-entry_loads shape e = look_loads shape (after.Next (Word e.at 0)) e.found
+entry_loads shape entry = look_loads shape (after.Next (Word entry.at 0)) entry.found
 
 abbrev pub block_loads : Grid → BlockLook → List Step
-block_loads shape b =
-    look_loads shape (after.Next (Com b.block)) b.found
-    ++ flat_map (entry_loads shape) b.entries
+block_loads shape looks =
+    look_loads shape (after.Next (Com looks.block)) looks.found
+    ++ flat_map (entry_loads shape) looks.entries
 
 abbrev pub walk_loads : Grid → Walk → List Step
 walk_loads shape walk =
@@ -56,11 +56,11 @@ item_seen item seen.Whole = item ∷ []
 item_seen item (seen.Reused now) = []
 
 abbrev pub entry_items : Grid → EntryLook → List Placed
-entry_items shape e =
-    item_seen (placed (place_at shape e.at) (take shape.width e.found)) e.answer
+entry_items shape entry =
+    item_seen (placed (place_at shape entry.at) (take shape.width entry.found)) entry.answer
 
 abbrev pub block_items : Grid → BlockLook → List Placed
-block_items shape b = flat_map (entry_items shape) b.entries
+block_items shape looks = flat_map (entry_items shape) looks.entries
 
 abbrev pub walk_items : Grid → Walk → List Placed
 walk_items shape walk = flat_map (block_items shape) walk.blocks
@@ -71,7 +71,7 @@ reused_by seen.Whole = []
 reused_by (seen.Reused now) = now ∷ []
 
 abbrev pub reused_in : List EntryLook → List Cursor
-reused_in entries = flat_map (λ (e : EntryLook). reused_by e.answer) entries
+reused_in entries = flat_map (λ (entry : EntryLook). reused_by entry.answer) entries
 
 -- the gaps: a block whose look found one, or that was found reused at one of its entries
 abbrev pub gap : ℕ → Cursor → Cursor → Gap
@@ -85,7 +85,7 @@ gaps_by block entries (look.Whole count committed allocated) =
 gaps_by block entries (look.Gap committed allocated) = gap block committed allocated ∷ []
 
 abbrev pub block_gaps : BlockLook → List Gap
-block_gaps b = gaps_by b.block b.entries b.answer
+block_gaps looks = gaps_by looks.block looks.entries looks.answer
 
 abbrev pub walk_gaps : Walk → List Gap
 walk_gaps walk = flat_map block_gaps walk.blocks
@@ -99,10 +99,11 @@ but_last items = take (length items - 1) items
 pub record AreEntryLooks (shape : Grid) (block count : ℕ) (entries : List EntryLook)
     : Type 0 where
   pub leads : All
-      (λ e. LookLeads shape (after.Next (Word e.at 0)) e.found (after.Entry e.answer)) entries
-  pub order : map (λ e. e.at) entries ≡ map (cursor block) (numbers_below (length entries))
+      (λ entry. LookLeads shape (after.Next (Word entry.at 0)) entry.found
+      (after.Entry entry.answer)) entries
+  pub order : map (λ entry. entry.at) entries ≡ map (cursor block) (numbers_below (length entries))
   pub within : length entries ≤ count
-  pub whole : All (λ e. e.answer ≡ seen.Whole) (but_last entries)
+  pub whole : All (λ entry. entry.answer ≡ seen.Whole) (but_last entries)
 
 -- how many entries a look found whole
 abbrev pub count_of : Look → ℕ
@@ -110,15 +111,16 @@ count_of (look.Unopened committed) = 0
 count_of (look.Whole count committed allocated) = count
 count_of (look.Gap committed allocated) = 0
 
-pub record IsBlockLook (shape : Grid) (b : BlockLook) : Type 0 where
-  pub leads : LookLeads shape (after.Next (Com b.block)) b.found (after.Block b.answer)
-  pub entries : AreEntryLooks shape b.block (count_of b.answer) b.entries
+pub record IsBlockLook (shape : Grid) (looks : BlockLook) : Type 0 where
+  pub leads : LookLeads shape (after.Next (Com looks.block)) looks.found (after.Block looks.answer)
+  pub entries : AreEntryLooks shape looks.block (count_of looks.answer) looks.entries
 
 -- the walk goes on after this block: it is opened, and each of its whole entries was looked at, or
 -- one of these looks found the block reused
-pub record IsPassed (b : BlockLook) : Type 0 where
-  pub opened : (committed : Cursor) → b.answer ≢ look.Unopened committed
-  pub through : (length b.entries ≡ count_of b.answer) ⊎ (0 < length (reused_in b.entries))
+pub record IsPassed (looks : BlockLook) : Type 0 where
+  pub opened : (committed : Cursor) → looks.answer ≢ look.Unopened committed
+  pub through : (length looks.entries ≡ count_of looks.answer)
+      ⊎ (0 < length (reused_in looks.entries))
 
 -- the first block that a walk looks at, and the first that it doesn't
 abbrev pub first_block : Grid → Cursor → ℕ
@@ -131,7 +133,7 @@ end_block shape newest = newest.block + shape.blocks + 1
 pub record IsWalk (shape : Grid) (walk : Walk) : Type 0 where
   pub head : LookLeads shape (after.Next Head) walk.found (after.Head walk.newest)
   pub looks : All (IsBlockLook shape) walk.blocks
-  pub order : map (λ b. b.block) walk.blocks
+  pub order : map (λ looks. looks.block) walk.blocks
       ≡ range_with_len (first_block shape walk.newest) (length walk.blocks)
   pub within : first_block shape walk.newest + length walk.blocks ≤ end_block shape walk.newest
   pub passed : All IsPassed (but_last walk.blocks)
@@ -142,4 +144,4 @@ HasEnded shape walk =
     ((first_block shape walk.newest + length walk.blocks ≡ end_block shape walk.newest)
     × All IsPassed walk.blocks)
     ⊎ ((committed : Cursor)
-    × Contains (map (λ (b : BlockLook). b.answer) walk.blocks) (look.Unopened committed))
+    × Contains (map (λ (looks : BlockLook). looks.answer) walk.blocks) (look.Unopened committed))

@@ -1,11 +1,11 @@
 //! The walk of a view: a look at the head, and then block by block.
-ghost use Rattle.std.specs.Prelude.{◌≡◌, ◌+◌, ◌<◌, ◌≤◌, ◌∷◌, ◌++◌, [], IfOk, Some, vec_capacity, vec_len};
+ghost use Rattle.std.specs.Prelude.{◌≡◌, ◌+◌, ◌<◌, ◌≤◌, ◌∷◌, ◌++◌, [], All, IfOk, Some, vec_capacity, vec_len};
 ghost use Rattle.cursor_word.specs.Cursor.{HasPlace, block_span};
 ghost use Rattle.rail.specs.Items.{IsRising, places};
 ghost use Rattle.call_steps.specs.Queue.{IsSeatOf};
 ghost use Rattle.block_looks.specs.Looks.{IsLookedAt};
 ghost use Rattle.flight_view.specs.Walks.{entry_items, gap};
-ghost use Rattle.flight_view.specs.Views.{HasWalked};
+ghost use Rattle.flight_view.specs.Views.{HasWalked, IsCaused, gap_blocks};
 ghost use Rattle.flight_view.specs.Parts.{IsInOrder, SawBlock, SawEntries, SawEntry, entry_look, midway};
 
 use crate::gaps::{Gap, Gaps};
@@ -32,6 +32,8 @@ pub fn flight_view(alloc: Global, rail: &DropRail, seat: &mut DropSeat) -> Resul
     ensures taken { seat.new.view.taken ≡ seat.old.view.taken }
     ensures walk { HasWalked rail.now.shape seat.old seat.new result }
     ensures rising { IfOk result (λ view. IsRising (places view.items.items)) }
+    ensures gaps { IfOk result (λ view. IsRising (gap_blocks view.gaps)) }
+    ensures causes { IfOk result (λ view. All IsCaused view.gaps) }
 {
     let blocks = rail.shape().blocks();
     let newest = rail.look_head(seat);
@@ -97,8 +99,8 @@ fn view_block(
     }
 }
 
-// Looks at the entries before a cursor, one after another, and adds their items. The cursor by which
-// one of them found the block reused, which ends it.
+// Looks at the entries before a cursor, one after another, and adds their items. The cursor by
+// which one of them found the block reused, which ends it.
 fn view_entries(
     rail: &DropRail,
     seat: &mut DropSeat,

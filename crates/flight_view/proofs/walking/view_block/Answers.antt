@@ -7,13 +7,13 @@ use Rattle.cursor_word.specs.declared.cursor.Cursor.{Cursor}
 use Rattle.block_looks.specs.declared.look.LookAfter.TheVariants as after
 use Rattle.block_looks.specs.declared.look.Look.TheVariants as look
 use Rattle.flight_view.specs.Walks.{gap}
-use Rattle.flight_view.proofs.Blocks.{saw_gap, saw_short, saw_unopened, saw_whole, whole_is}
+use Rattle.flight_view.proofs.Blocks.{saw_gap, saw_short, saw_unopened, saw_whole, told}
 use Rattle.flight_view.proofs.walking.view_block.Goals as goal
 
 pub view_entries-requires-clause-looking : goal.view_entries-requires-clause-looking
 view_entries-requires-clause-looking c =
     let w = c.in-Whole in
-    let is = whole_is c.args.rail.now.shape c.args.block c.look_block.new.seat.memory.look_trail (after.Block (look.Whole w.count w.committed w.allocated)) w.ensures.look.steps.leads in
+    let is = told c.args.rail.now.shape c.args.block c.look_block.new.seat.memory.look_trail (after.Block (look.Whole w.count w.committed w.allocated)) w.ensures.look.steps.leads in
     w.ensures.looking ∙ ap (λ (b : ℕ). Some (cursor b w.count)) is.0
 
 pub returns-in_err-now-in-Whole-clause-looks : goal.returns-in_err-now-in-Whole-clause-looks
