@@ -1,38 +1,51 @@
 //! What the command answers with ample memory, on worked texts and with a source or a sink that fails.
 use flow_io::{Clock, MemClock, MemSink, MemSource, MemStore};
-use profile_cli::{Closed, SoloRails, profile};
+use profile_cli::{Closed, Rails, SoloRails, profile};
 use rail::Rail;
-use solo_rail::{SoloDrop, SoloRetry};
 use std::alloc::{AllocError, Global};
 use std::process::Abort;
 use std::sync::Wait;
 use std::test::Fail;
 use std::thread::Threads;
-use word_workers::NoGate;
+use word_workers::{Gate, NoGate};
 
 /// What a run of the command left.
 #[derive(Drop)]
 pub(crate) struct Left {
     pub(crate) status: u8,
     pub(crate) detail: u64,
-    accepted: Option<u64>,
+    pub(crate) accepted: Option<u64>,
     pub(crate) out: MemSink,
     pub(crate) messages: MemSink,
     pub(crate) trace: MemStore,
 }
 
-/// What a run of the command may find: the source's calls that fail, and the room for the counts and for the trace.
+/// What a run of the command may find: the calls that fail of the source, the output, the store and
+/// the messages, how many bytes a read gives at most, and a write to the output and to the store
+/// takes at most, and the room for the counts and for the documents.
 #[derive(Clone, Copy)]
 pub(crate) struct World<'a> {
     pub(crate) fails: &'a [u64],
+    pub(crate) out_fails: &'a [u64],
+    pub(crate) store_fails: &'a [u64],
+    pub(crate) message_fails: &'a [u64],
+    pub(crate) most: usize,
+    pub(crate) out_most: usize,
+    pub(crate) store_most: usize,
     pub(crate) room: usize,
-    pub(crate) trace_room: usize,
+    pub(crate) store_room: usize,
 }
 
 pub(crate) const AMPLE: World = World {
     fails: &[],
+    out_fails: &[],
+    store_fails: &[],
+    message_fails: &[],
+    most: 1 << 24,
+    out_most: 7,
+    store_most: 7,
     room: 1 << 10,
-    trace_room: 1 << 16,
+    store_room: 1 << 16,
 };
 
 /// A run of these words, over one file in memory, by a clock that counts from 0 by ones.
@@ -58,17 +71,38 @@ pub(crate) fn tried_by<X: Threads + Wait + Sync, C: Clock>(
     world: &World<'_>,
     clock: &C,
 ) -> Result<Left, AllocError> {
+    tried_over(
+        rt, alloc, words, name, bytes, world, clock, &NoGate, &SoloRails,
+    )
+}
+
+/// A run of these words by this clock, with this gate, over queues of these kinds.
+pub(crate) fn tried_over<X: Threads + Wait + Sync, C: Clock, G: Gate, R: Rails>(
+    rt: &X,
+    alloc: Global,
+    words: &[&str],
+    name: &str,
+    bytes: Vec<u8>,
+    world: &World<'_>,
+    clock: &C,
+    gate: &G,
+    rails: &R,
+) -> Result<Left, AllocError> {
     let mut asked = Vec::new(alloc);
     for word in words {
         asked.push(String::from_str(alloc, word)?)?;
     }
     let mut held = Vec::new(alloc);
     held.push((String::from_str(alloc, name)?, bytes))?;
-    let most = if world.fails.is_empty() { 1 << 24 } else { 3 };
-    let mut files = MemSource::new(held, most, Vec::from_slice(alloc, world.fails)?);
-    let mut out = MemSink::new(alloc, world.room, 7, Vec::new(alloc))?;
-    let mut messages = MemSink::new(alloc, 100, 7, Vec::new(alloc))?;
-    let mut trace = MemStore::new(alloc, 2, world.trace_room, 7, Vec::new(alloc))?;
+    let fails = Vec::from_slice(alloc, world.fails)?;
+    let mut files = MemSource::new(held, world.most.max(1), fails);
+    let fails = Vec::from_slice(alloc, world.out_fails)?;
+    let mut out = MemSink::new(alloc, world.room, world.out_most.max(1), fails)?;
+    let fails = Vec::from_slice(alloc, world.message_fails)?;
+    let mut messages = MemSink::new(alloc, 100, 7, fails)?;
+    let fails = Vec::from_slice(alloc, world.store_fails)?;
+    let most = world.store_most.max(1);
+    let mut trace = MemStore::new(alloc, 2, world.store_room, most, fails)?;
     let report = profile(
         rt,
         alloc,
@@ -78,15 +112,15 @@ pub(crate) fn tried_by<X: Threads + Wait + Sync, C: Clock>(
         &mut messages,
         &mut trace,
         clock,
-        &NoGate,
-        &SoloRails,
+        gate,
+        rails,
     );
     Ok(Left {
         status: report.status,
         detail: report.detail,
         accepted: match &report.closed {
-            Closed::Retry(done) => Some(SoloRetry::accepted(done)),
-            Closed::DropOld(done) => Some(SoloDrop::accepted(done)),
+            Closed::Retry(done) => Some(<R::Retry as Rail>::accepted(done)),
+            Closed::DropOld(done) => Some(<R::DropOld as Rail>::accepted(done)),
             Closed::Nothing => None,
         },
         out,
@@ -97,7 +131,7 @@ pub(crate) fn tried_by<X: Threads + Wait + Sync, C: Clock>(
 
 const AB: &[u8] = b"a b a\n";
 
-const COUNTS: &[u8] = b"words 3 distinct 2\n2 a\n1 b\n";
+pub(crate) const COUNTS: &[u8] = b"words 3 distinct 2\n2 a\n1 b\n";
 
 const TWO_WORKERS: &[&str] = &[
     "--trace",
@@ -115,7 +149,7 @@ const TWO_WORKERS: &[&str] = &[
 ];
 
 /// The trace of `a b a` and a newline in `ab.txt` by one worker, with a clock that counts from 0 by ones.
-const TRACE: &[u8] =
+pub(crate) const TRACE: &[u8] =
     b"{\"displayTimeUnit\":\"ms\",\"otherData\":{\"accepted\":2,\"kept\":2},\"traceEvents\":[{\"args\":{\"name\":\"worker 1\"},\"name\":\"thread_name\",\"ph\":\"M\",\"pid\":1,\"tid\":1},{\"args\":{\"depth\":1,\"file\":0,\"piece\":0,\"total\":3,\"words\":3},\"cat\":\"piece\",\"dur\":1,\"name\":\"ab.txt\",\"ph\":\"X\",\"pid\":1,\"tid\":1,\"ts\":1},{\"args\":{\"words\":3},\"name\":\"words 1\",\"ph\":\"C\",\"pid\":1,\"tid\":1,\"ts\":2},{\"args\":{\"depth\":0,\"pieces\":1,\"total\":3,\"words\":3},\"cat\":\"worker\",\"dur\":3,\"name\":\"worker\",\"ph\":\"X\",\"pid\":1,\"tid\":1,\"ts\":0}]}\n";
 
 /// The trace of an empty file by two workers.
@@ -131,26 +165,28 @@ const GENERATED: &[u8] =
     b"{\"displayTimeUnit\":\"ms\",\"otherData\":{\"accepted\":2,\"kept\":2},\"traceEvents\":[{\"args\":{\"name\":\"worker 1\"},\"name\":\"thread_name\",\"ph\":\"M\",\"pid\":1,\"tid\":1},{\"args\":{\"depth\":1,\"file\":0,\"piece\":0,\"total\":5,\"words\":5},\"cat\":\"piece\",\"dur\":1,\"name\":\"generated\",\"ph\":\"X\",\"pid\":1,\"tid\":1,\"ts\":1},{\"args\":{\"words\":5},\"name\":\"words 1\",\"ph\":\"C\",\"pid\":1,\"tid\":1,\"ts\":2},{\"args\":{\"depth\":0,\"pieces\":1,\"total\":5,\"words\":5},\"cat\":\"worker\",\"dur\":3,\"name\":\"worker\",\"ph\":\"X\",\"pid\":1,\"tid\":1,\"ts\":0}]}\n";
 
 /// The trace of the newest two of four spans, those of `a b c` in `abc.txt` by one worker.
-const NEWEST: &[u8] =
+pub(crate) const NEWEST: &[u8] =
     b"{\"displayTimeUnit\":\"ms\",\"otherData\":{\"accepted\":4,\"kept\":2},\"traceEvents\":[{\"args\":{\"name\":\"worker 1\"},\"name\":\"thread_name\",\"ph\":\"M\",\"pid\":1,\"tid\":1},{\"args\":{\"depth\":1,\"file\":0,\"piece\":2,\"total\":3,\"words\":1},\"cat\":\"piece\",\"dur\":1,\"name\":\"abc.txt\",\"ph\":\"X\",\"pid\":1,\"tid\":1,\"ts\":5},{\"args\":{\"words\":3},\"name\":\"words 1\",\"ph\":\"C\",\"pid\":1,\"tid\":1,\"ts\":6},{\"args\":{\"depth\":0,\"pieces\":3,\"total\":3,\"words\":3},\"cat\":\"worker\",\"dur\":7,\"name\":\"worker\",\"ph\":\"X\",\"pid\":1,\"tid\":1,\"ts\":0}]}\n";
 
-/// A run of the command over the file `ab.txt`, and what it leaves. The trace is given where it was worked out.
+/// A run of the command over one file, and what it leaves: the name of the trace, its text where that
+/// was worked out, and the second document.
 #[derive(Clone, Copy)]
-struct Case<'a> {
-    words: &'a [&'a str],
-    bytes: &'a [u8],
-    world: World<'a>,
-    status: u8,
-    detail: u64,
-    accepted: Option<u64>,
-    out: &'a [u8],
-    name: Option<&'a str>,
-    trace: Option<&'a [u8]>,
-    message: &'a [u8],
+pub(crate) struct Case<'a> {
+    pub(crate) words: &'a [&'a str],
+    pub(crate) bytes: &'a [u8],
+    pub(crate) world: World<'a>,
+    pub(crate) status: u8,
+    pub(crate) detail: u64,
+    pub(crate) accepted: Option<u64>,
+    pub(crate) out: &'a [u8],
+    pub(crate) name: Option<&'a str>,
+    pub(crate) trace: Option<&'a [u8]>,
+    pub(crate) folded: Option<(&'a str, &'a [u8])>,
+    pub(crate) message: &'a [u8],
 }
 
 /// A run that does everything.
-const DONE: Case = Case {
+pub(crate) const DONE: Case = Case {
     words: &["ab.txt"],
     bytes: AB,
     world: AMPLE,
@@ -160,6 +196,7 @@ const DONE: Case = Case {
     out: b"",
     name: Some("trace.json"),
     trace: None,
+    folded: None,
     message: b"",
 };
 
@@ -174,13 +211,13 @@ const REFUSED: Case = Case {
     out: b"",
     name: None,
     trace: None,
+    folded: None,
     message: b"",
 };
 
-fn is_left(rt: &impl Abort, left: &Left, case: &Case<'_>) {
+pub(crate) fn is_left(rt: &impl Abort, left: &Left, case: &Case<'_>) {
     let numbers = (left.status, left.detail, left.accepted);
     let texts = (left.out.bytes(), left.messages.bytes());
-    let names = (left.trace.name(0), left.trace.name(1));
     assert_eq!(rt;
         numbers,
         (case.status, case.detail, case.accepted),
@@ -188,7 +225,9 @@ fn is_left(rt: &impl Abort, left: &Left, case: &Case<'_>) {
         case.words
     );
     assert_eq!(rt; texts, (case.out, case.message), "{:?}", case.words);
-    assert_eq!(rt; names, (case.name, None), "{:?}", case.words);
+    assert_eq!(rt; left.trace.name(0), case.name, "{:?}", case.words);
+    let second = left.trace.name(1).zip(left.trace.bytes(1));
+    assert_eq!(rt; second, case.folded, "{:?}", case.words);
     if case.trace.is_some() {
         assert_eq!(rt; left.trace.bytes(0), case.trace, "{:?}", case.words);
     }
@@ -208,6 +247,14 @@ const CASES: &[Case] = &[
         accepted: Some(2),
         out: b"words 0 distinct 0\n",
         trace: Some(IDLE),
+        ..DONE
+    },
+    Case {
+        words: &["--workers", "1", "--fold", "ab.txt"],
+        accepted: Some(2),
+        out: COUNTS,
+        trace: Some(TRACE),
+        folded: Some(("trace.json.folded", b"worker 1 2\nworker 1;file 0 1\n")),
         ..DONE
     },
     // A queue of two spans is full before the third.
@@ -281,6 +328,7 @@ const CASES: &[Case] = &[
     Case {
         world: World {
             fails: &[2],
+            most: 3,
             ..AMPLE
         },
         message: b"bbq-profile: cannot read ab.txt\n",
@@ -291,6 +339,7 @@ const CASES: &[Case] = &[
         words: &["ab.txt", "ab.txt"],
         world: World {
             fails: &[2],
+            most: 3,
             ..AMPLE
         },
         message: b"bbq-profile: cannot read ab.txt\n",
@@ -300,6 +349,7 @@ const CASES: &[Case] = &[
         words: &["ab.txt", "ab.txt"],
         world: World {
             fails: &[4],
+            most: 3,
             ..AMPLE
         },
         detail: 1,
@@ -310,6 +360,7 @@ const CASES: &[Case] = &[
         words: &["ab.txt", "ab.txt"],
         world: World {
             fails: &[6],
+            most: 3,
             ..AMPLE
         },
         detail: 1,
@@ -330,13 +381,41 @@ const CASES: &[Case] = &[
     Case {
         words: &["--workers", "1", "ab.txt"],
         world: World {
-            trace_room: 20,
+            store_room: 20,
             ..AMPLE
         },
         status: 9,
         accepted: Some(2),
         out: COUNTS,
         trace: Some(b"{\"displayT"),
+        message: b"bbq-profile: cannot write trace\n",
+        ..DONE
+    },
+    // The trace is whole, and then there is no room for the name of the folded times, or for five bytes of them.
+    Case {
+        words: &["--workers", "1", "--fold", "ab.txt"],
+        world: World {
+            store_room: 485,
+            ..AMPLE
+        },
+        status: 9,
+        accepted: Some(2),
+        out: COUNTS,
+        trace: Some(TRACE),
+        message: b"bbq-profile: cannot write trace\n",
+        ..DONE
+    },
+    Case {
+        words: &["--workers", "1", "--fold", "ab.txt"],
+        world: World {
+            store_room: 507,
+            ..AMPLE
+        },
+        status: 9,
+        accepted: Some(2),
+        out: COUNTS,
+        trace: Some(TRACE),
+        folded: Some(("trace.json.folded", b"worke")),
         message: b"bbq-profile: cannot write trace\n",
         ..DONE
     },
@@ -369,10 +448,13 @@ fn lists_the_newest_spans_of_a_queue_that_drops_the_oldest(rt: HostRuntime) -> R
             "--piece",
             "1",
             "abc.txt",
+            "--fold",
         ],
         accepted: Some(4),
         out: b"words 3 distinct 3\n1 a\n1 b\n1 c\n",
         trace: Some(NEWEST),
+        // They are folded, and not all that were accepted.
+        folded: Some(("trace.json.folded", b"worker 1 6\nworker 1;file 0 1\n")),
         ..DONE
     };
     let bytes = Vec::from_slice(alloc, b"a b c")?;

@@ -2,7 +2,11 @@
 #![tactic(auto)]
 
 #[cfg(test)]
+mod beside;
+#[cfg(test)]
 mod command;
+#[cfg(test)]
+mod failures;
 #[cfg(test)]
 mod folded;
 #[cfg(test)]

@@ -3,9 +3,9 @@ ghost use Rattle.std.specs.Prelude.{◌≡◌, ◌≤◌, [], length, OnOk};
 
 use crate::scripted::{Says, Script, Scripted};
 use cursor_word::Shape;
-use rail::{Batch, Rail};
+use rail::{Batch, Rail, Take};
 use solo_rail::SoloRetry;
-use span_recorder::note_span;
+use span_recorder::{collect_one, note_span};
 use span_words::{SPAN_WORDS, SpanEvent, SpanKind, encode};
 use std::alloc::{AllocError, Global};
 use std::sync::Wait;
@@ -73,9 +73,14 @@ fn a_full_queue_is_helped_and_then_noted_in(rt: HostRuntime) -> Result<(), Fail>
     note_span(&rt, alloc, &rail, &mut seat, &mut batch, &span_of(4))?;
     assert_eq!(rt; SoloRetry::puts(&seat), 5);
     assert_eq!(rt; batch.len(), 2);
+    assert_eq!(rt;
+        collect_one(alloc, &rail, &mut seat, &mut batch)?,
+        Take::Ok(2)
+    );
+    assert_eq!(rt; batch.len(), 3);
     let done = closed(alloc, rail, seat)?;
     let left = SoloRetry::left(&done);
-    assert_eq!(rt; left.len(), 3);
+    assert_eq!(rt; left.len(), 2);
     let items = batch.as_slice().iter().chain(left.as_slice());
     for (place, item) in (0..5).zip(items) {
         assert_eq!(rt; item.place, place);

@@ -19,6 +19,7 @@ const LINES: &[Line] = &[
     (&["--mode=drop", "ab.txt"], 0, 0, b""),
     (&["--workers", FORTY_DIGITS_OF_TWO, "ab.txt"], 0, 0, b""),
     (&["--trace=-x", "--", "ab.txt"], 0, 0, b""),
+    (&["ab.txt", "--fold", "--size=1"], 0, 0, b""),
     (
         &["--", "--workers"],
         4,
@@ -34,6 +35,8 @@ const LINES: &[Line] = &[
     (&["--workers", "-1", "ab.txt"], 2, 1, NO_WORDS),
     (&["--workers", "0", "--nosuch", "ab.txt"], 2, 1, NO_WORDS),
     (&["ab.txt", "--help"], 2, 1, NO_WORDS),
+    (&["--fold", "--fold", "ab.txt"], 2, 1, NO_WORDS),
+    (&["--fold=true", "ab.txt"], 2, 1, NO_WORDS),
     (
         &["--mode", "new", "ab.txt"],
         2,
