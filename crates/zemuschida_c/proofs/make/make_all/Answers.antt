@@ -1,6 +1,5 @@
-use Rattle.std.proofs.Common.{rules, ◌∙◌, All, List, ap, arith, length, refl, subst, sym}
+use Rattle.std.proofs.Common.{rules, ◌∙◌, All, ap, arith, length, refl, subst, sym}
 use Rattle.std.specs.Arc.{arc_value}
-use Rattle.std.specs.Vec.Iter.{into_iter_items}
 use Rattle.rail.specs.Outcome.{numbers_below}
 use Rattle.call_steps.specs.Queue.{IsFresh, Queue}
 use Rattle.zemuschida_c.specs.Seats.{in_seat, retry_kind}

@@ -1,5 +1,4 @@
 -- What lies at the pointer, and the right to free it, may go to any thread.
-use mathlib.Core.List.{[], ◌∷◌}
 use mir.Raw.{raw}
 use base.Shift.{Keyless}
 use denote.Memory.{lone}

@@ -4,14 +4,14 @@ use mathlib.Core.Path.{refl}
 use lib.Dec.{lit<}
 use mir.Val.{vnull, vstruct, vcons, vnil}
 use base.Logic.{emp}
-use types.Kit.{raw, ◌$◌, ◌∵◌, !, qed, keep, drop, move, join, fjoin, feq_i, group, suffices, done}
+use types.Kit.{raw, ◌$◌, ◌∵◌, !, qed, drop, join, suffices, done}
 use types.Part.{agg}
 use types.Run.{no_more, and_then, lit, returns, enter}
 use types.ByLocal.{alloc_all, pass_all, free_all, look_at, sets}
 use denote.RawPtr.{null_ptr}
 use denote.Steps.{nothing}
 use denote.Triple.Entry.{on_entry}
-use denote.Triple.Walked.{says, walk_of, ends_at}
+use denote.Triple.Walked.{says, ends_at}
 use Rattle.std.specs.Prelude.{None}
 use Rattle.std.proofs.raw_atomic.Walks.{proved}
 use Rattle.zemuschida_c.proofs.Words.{owns_slot}

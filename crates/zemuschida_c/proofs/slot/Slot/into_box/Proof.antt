@@ -1,5 +1,5 @@
 -- `into_box` hands what the slot owns to `from_raw`.
-use mathlib.Core.List.{List, [], ◌∷◌}
+use mathlib.Core.List.{[], ◌∷◌}
 use mathlib.Core.Path.{◌≡◌, refl, sym, ap, ◌∙◌}
 use base.Fraction.{full_share}
 use base.Fml.{ftrue, fsep}
@@ -12,11 +12,11 @@ use types.Kit.{‵, raw, ◌⊛◌, some, later, at_ret, ◌$◌, ◌∵◌, !, 
 use types.Part.{whole, sub}
 use types.Run.{stop, fld, of_opd, no_more, and_then, first, blocks, exec, returns, enter}
 use types.ByLocal.{alloc_all, pass_all, free_all, look_at, get, get_in, sets, lands_last, env}
-use denote.Exit.{yes, no}
+use denote.Exit.{yes}
 use denote.Laws.{Is, shows}
 use denote.Param.{bounded}
 use denote.Param.NoDrop.{glues}
-use denote.RawPtr.{RawPtr, ptr_val, rawptr_Lawful}
+use denote.RawPtr.{ptr_val, rawptr_Lawful}
 use denote.Signature.{plain}
 use denote.Steps.{nothing, heard, peeks}
 use denote.Struct.Laws.{lawful}
@@ -28,7 +28,6 @@ use denote.Triple.Table.{framed}
 use denote.Triple.Walked.{Stays, stay_dropped, walk_of, says, Goes-dropped, ends_at}
 use Rattle.std.specs.Prelude.{Option, Some}
 use Rattle.std.proofs.raw_atomic.Walks.{proved}
-use Rattle.std_alloc.specs.Box.Ownership.{box_owns}
 use Rattle.std_alloc.specs.contracts.boxed.Box.from_raw as from_raw
 use Rattle.std_alloc.proofs.boxed.Box.from_raw.Met as made_whole
 use Rattle.std_alloc.proofs.boxed.Box.from_raw.Symbol as callee
@@ -37,7 +36,6 @@ use Rattle.std_heap.proofs.Global.TheLaws as heap_laws
 use Rattle.std_heap.proofs.Handle.{heap_val, heap_Tells}
 use Rattle.std_heap.specs.contracts.GlobalAllocator.TheImpl.{ghosts, dict}
 use Rattle.std_heap.proofs.GlobalAllocator.TheImpl.Met as allocator
-use Rattle.libc.specs.Heap.{chunk}
 use Rattle.zemuschida_c.specs.Slot.{kept_row}
 use Rattle.zemuschida_c.specs.declared.held.Held.{Held}
 use Rattle.zemuschida_c.specs.contracts.slot.Slot as slot

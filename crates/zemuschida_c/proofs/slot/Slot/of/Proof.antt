@@ -1,15 +1,14 @@
 -- `of` lets the box go into its pointer, and the slot owns what `into_raw` ensures.
-use mathlib.Core.List.{List, [], ◌∷◌, ◌++◌}
+use mathlib.Core.List.{List, [], ◌∷◌}
 use mathlib.Core.Path.{refl, ap}
 use base.Fraction.{full_share}
-use base.Fml.{ftrue, fsep, flft}
+use base.Fml.{ftrue, fsep}
 use base.Logic.{emp, id⊢, ent}
-use contract.BorrowLft.{⊑_static, ◌⊑◌}
-use contract.Monad.{fact, fact_i}
+use contract.BorrowLft.{⊑_static}
 use contract.Running.{tables}
 use mir.Val.{Val}
 use prog.Wp.{WpFn}
-use types.Kit.{‵, raw, ◌⊛◌, some, later, ◌$◌, ◌∵◌, !, qed, move, drop, use0, use1, split, join, fsplit, fjoin, feq_l, pick, await, suffices, done}
+use types.Kit.{‵, raw, ◌⊛◌, some, later, ◌$◌, ◌∵◌, !, qed, move, drop, use1, split, join, fjoin, feq_l, pick, await, suffices, done}
 use types.Part.{agg}
 use types.Run.{of_opd, no_more, and_then, returns, enter}
 use types.ByLocal.{alloc_all, pass_all, free_all, look_at, get, sets, lands_as}
@@ -19,7 +18,6 @@ use mir.Syntax.{a_type, dcons, dnil}
 use denote.Triple.Statement.{Triple}
 use Rattle.std_alloc.proofs.boxed.Box.into_raw.Symbol as callee
 use denote.Param.NoDrop.{glues}
-use denote.RattleType.{Denots}
 use denote.Param.Steps.{one_value}
 use denote.RawPtr.{Ptr, RawPtr, rawptr_Lawful}
 use denote.Signature.{plain}
