@@ -1,0 +1,79 @@
+/* Each code by hand, by one thread. */
+#include "zemuschida.h"
+#include <stdio.h>
+#include <string.h>
+
+#define WANT(holds)                                                                                \
+    do {                                                                                           \
+        if (!(holds)) {                                                                            \
+            fprintf(stderr, "answers: line %d: %s\n", __LINE__, #holds);                           \
+            return 1;                                                                              \
+        }                                                                                          \
+    } while (0)
+
+static int refusals(void) {
+    zem_seat seats[2] = {{0}};
+    uint64_t entry[8] = {5, 6, 7};
+    zem_answer answer, before;
+    memset(&answer, 1, sizeof answer);
+    before = answer;
+    WANT(zem_put(&seats[0], entry, 1, &answer) == ZEM_CLOSED);
+    WANT(zem_take(&seats[0], entry, 1, &answer) == ZEM_CLOSED);
+    WANT(zem_make(1, 64, 1, seats, 2) == ZEM_BAD_BLOCKS);
+    WANT(zem_make(257, 64, 1, seats, 2) == ZEM_BAD_BLOCKS);
+    WANT(zem_make(2, 0, 1, seats, 2) == ZEM_BAD_SIZE);
+    WANT(zem_make(2, 65537, 9, seats, 2) == ZEM_BAD_SIZE);
+    WANT(zem_make(2, 64, 9, seats, 0) == ZEM_BAD_WIDTH);
+    WANT(zem_make(2, 64, 1, seats, 0) == ZEM_BAD_SEATS);
+    WANT(!seats[0].full && !seats[1].full);
+    WANT(zem_make(2, 2, 3, seats, 2) == ZEM_OK);
+    WANT(zem_put(&seats[0], entry, 2, &answer) == ZEM_WIDTH);
+    WANT(zem_take(&seats[0], entry, 4, &answer) == ZEM_WIDTH);
+    WANT(memcmp(&answer, &before, sizeof answer) == 0);
+    WANT(entry[0] == 5 && entry[1] == 6 && entry[2] == 7);
+    zem_free(&seats[0]), zem_free(&seats[0]), zem_free(&seats[1]);
+    return 0;
+}
+
+static int refusing(void) {
+    zem_seat seats[2] = {{0}};
+    uint64_t entry[1];
+    zem_answer answer;
+    WANT(zem_make(2, 2, 1, seats, 2) == ZEM_OK);
+    WANT(zem_take(&seats[0], entry, 1, &answer) == ZEM_EMPTY && answer.place == 0);
+    for (uint64_t i = 0; i < 4; i++) {
+        entry[0] = i;
+        WANT(zem_put(&seats[i % 2], entry, 1, &answer) == ZEM_OK && answer.place == i);
+    }
+    WANT(zem_put(&seats[0], entry, 1, &answer) == ZEM_FULL && answer.block == 3);
+    WANT(answer.first.block == 2 && answer.first.offset == 0);
+    WANT(zem_take(&seats[1], entry, 1, &answer) == ZEM_OK && answer.place == 0 && entry[0] == 0);
+    zem_free(&seats[1]);
+    WANT(zem_take(&seats[0], entry, 1, &answer) == ZEM_OK && answer.place == 1 && entry[0] == 1);
+    WANT(zem_put(&seats[1], entry, 1, &answer) == ZEM_CLOSED);
+    WANT(zem_make(2, 2, 1, seats, 2) == ZEM_OK); /* the seat that stood there is given up */
+    zem_free(&seats[0]), zem_free(&seats[1]);
+    return 0;
+}
+
+static int overwriting(void) {
+    zem_ring_seat seat = {0};
+    uint64_t entry[2] = {0};
+    zem_answer answer;
+    WANT(zem_ring_put(&seat, entry, 2, &answer) == ZEM_CLOSED);
+    WANT(zem_ring_make(2, 2, 2, &seat, 1) == ZEM_OK);
+    WANT(zem_ring_put(&seat, entry, 1, &answer) == ZEM_WIDTH);
+    for (uint64_t i = 0; i < 100; i++) {
+        entry[0] = i, entry[1] = 2 * i;
+        WANT(zem_ring_put(&seat, entry, 2, &answer) == ZEM_OK && answer.place == i);
+    }
+    for (uint64_t i = 96; i < 100; i++) {
+        WANT(zem_ring_take(&seat, entry, 2, &answer) == ZEM_OK && answer.place == i);
+        WANT(entry[0] == i && entry[1] == 2 * i);
+    }
+    WANT(zem_ring_take(&seat, entry, 2, &answer) == ZEM_EMPTY && answer.place == 100);
+    zem_ring_free(&seat);
+    return 0;
+}
+
+int main(void) { return refusals() || refusing() || overwriting(); }

@@ -1,0 +1,65 @@
+//! The declarations of zemuschida.h.
+use std::ffi::c_void;
+use std::ptr::null_mut;
+
+pub const OK: u32 = 0;
+pub const FULL: u32 = 1;
+pub const EMPTY: u32 = 2;
+pub const UNFINISHED: u32 = 3;
+pub const MOVED: u32 = 4;
+pub const OVERRUN: u32 = 5;
+pub const SPENT: u32 = 18;
+pub const BAD_BLOCKS: u32 = 20;
+pub const BAD_SIZE: u32 = 21;
+pub const BAD_WIDTH: u32 = 22;
+pub const BAD_SEATS: u32 = 23;
+/// One more than a queue may have.
+pub const TOO_MANY_SEATS: usize = 1025;
+
+/// `zem_seat` and `zem_ring_seat`.
+#[repr(C)]
+pub struct Seat {
+    full: bool,
+    at: *mut c_void,
+}
+
+impl Seat {
+    pub const NONE: Seat = Seat {
+        full: false,
+        at: null_mut(),
+    };
+}
+
+#[repr(C)]
+#[derive(Clone, Copy, Default)]
+pub struct Cursor {
+    pub block: u64,
+    pub offset: u64,
+}
+
+#[repr(C)]
+#[derive(Clone, Copy, Default)]
+pub struct Answer {
+    pub place: u64,
+    pub block: u64,
+    pub first: Cursor,
+    pub second: Cursor,
+}
+
+pub type Make = unsafe extern "C" fn(u64, u64, u64, *mut Seat, usize) -> u32;
+
+extern "C" {
+    pub fn zem_make(blocks: u64, size: u64, width: u64, seats: *mut Seat, n: usize) -> u32;
+    pub fn zem_put(seat: *mut Seat, entry: *const u64, width: usize, answer: *mut Answer) -> u32;
+    pub fn zem_take(seat: *mut Seat, out: *mut u64, width: usize, answer: *mut Answer) -> u32;
+    pub fn zem_free(seat: *mut Seat);
+    pub fn zem_ring_make(blocks: u64, size: u64, width: u64, seats: *mut Seat, n: usize) -> u32;
+    pub fn zem_ring_put(
+        seat: *mut Seat,
+        entry: *const u64,
+        width: usize,
+        answer: *mut Answer,
+    ) -> u32;
+    pub fn zem_ring_take(seat: *mut Seat, out: *mut u64, width: usize, answer: *mut Answer) -> u32;
+    pub fn zem_ring_free(seat: *mut Seat);
+}

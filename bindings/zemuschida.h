@@ -1,0 +1,112 @@
+/* Bounded queues of entries of one to eight 64-bit words, for many threads, without a lock.
+
+   A seat is the right of one caller to put and take, and the only handle of a queue: the queue goes
+   with its last seat. `zem_seat` is a seat of a queue that refuses entries when it is full, and
+   `zem_ring_seat` one of a queue that then drops its oldest block of entries.
+
+   What the caller owes, which nothing checks:
+   1. A seat begins as {0}, and is as a call left it. It is moved (by assignment, leaving {0} behind),
+      and never copied. No pointer is null, each has as many elements as the call is told, and those
+      of one call don't overlap.
+   2. A seat is used by one call at a time, of any thread.
+   3. A seat goes to another thread by a lock, by the start or end of a thread, or by a sequentially
+      consistent atomic.
+   4. malloc, realloc and free are those of one allocator.
+   5. No call is made from a signal handler, nor in the forked child of a process with threads.
+
+   Who may call what at the same time:
+     a put or a take of one seat     puts and takes of all other seats
+     zem_make, zem_free              anything of other seats
+
+   The library is for x86-64 (x86-64-v2) and Linux. */
+#ifndef ZEMUSCHIDA_H
+#define ZEMUSCHIDA_H
+
+#include <stdbool.h>
+#include <stddef.h>
+#include <stdint.h>
+
+#ifdef __cplusplus
+extern "C" {
+#endif
+
+/* Answers of puts and takes, with the numbers that they have; the others are 0. */
+#define ZEM_OK 0u         /* place */
+#define ZEM_FULL 1u       /* put: block (the newest), first (consumed, in the block to be reused) */
+#define ZEM_EMPTY 2u      /* take: place (the first that isn't made) */
+#define ZEM_UNFINISHED 3u /* another call was in the way: block, first, second */
+#define ZEM_MOVED 4u      /* another call was in the way: first, second */
+#define ZEM_OVERRUN 5u    /* take of a ring: place, first. What the call read was overwritten */
+/* Refusals: nothing was done. */
+#define ZEM_CLOSED 16u     /* the seat is {0} */
+#define ZEM_WIDTH 17u      /* not as many words as the queue's entries have */
+#define ZEM_SPENT 18u      /* the seat had as many entries accepted as a seat may (at least 2^32) */
+#define ZEM_MEMORY 19u     /* zem_make: no memory */
+#define ZEM_BAD_BLOCKS 20u /* zem_make: 2 to 256 blocks */
+#define ZEM_BAD_SIZE 21u   /* zem_make: 1 to 65536 entries a block */
+#define ZEM_BAD_WIDTH 22u  /* zem_make: 1 to 8 words an entry */
+#define ZEM_BAD_SEATS 23u  /* zem_make: 1 to 1024 seats */
+
+/* Hold no two seats of different threads on one cache line. */
+typedef struct zem_seat {
+    bool full;
+    void *at;
+} zem_seat;
+
+typedef struct zem_ring_seat {
+    bool full;
+    void *at;
+} zem_ring_seat;
+
+typedef struct zem_cursor {
+    uint64_t block, offset;
+} zem_cursor;
+
+typedef struct zem_answer {
+    uint64_t place, block;
+    zem_cursor first, second;
+} zem_answer;
+
+/* Makes a queue with a seat for each of the n handles. A seat that a handle had is given up. */
+uint32_t zem_make(uint64_t blocks, uint64_t size, uint64_t width, zem_seat *seats, size_t n);
+/* Puts an entry of width words. A refusal leaves *answer as it was. */
+uint32_t zem_put(zem_seat *seat, const uint64_t *entry, size_t width, zem_answer *answer);
+/* Takes an entry into width words, which only ZEM_OK changes. */
+uint32_t zem_take(zem_seat *seat, uint64_t *out, size_t width, zem_answer *answer);
+/* Gives up a seat, and leaves {0}. */
+void zem_free(zem_seat *seat);
+
+/* The same for a queue that overwrites. No put is answered ZEM_FULL, and after ZEM_OVERRUN the words
+   hold any numbers. */
+uint32_t zem_ring_make(uint64_t blocks, uint64_t size, uint64_t width, zem_ring_seat *seats,
+                       size_t n);
+uint32_t zem_ring_put(zem_ring_seat *seat, const uint64_t *entry, size_t width,
+                      zem_answer *answer);
+uint32_t zem_ring_take(zem_ring_seat *seat, uint64_t *out, size_t width, zem_answer *answer);
+void zem_ring_free(zem_ring_seat *seat);
+
+static inline const char *zem_text(uint32_t code) {
+    switch (code) {
+    case ZEM_OK: return "done";
+    case ZEM_FULL: return "the queue is full";
+    case ZEM_EMPTY: return "the queue is empty";
+    case ZEM_UNFINISHED: return "another call isn't finished";
+    case ZEM_MOVED: return "another call was in the way";
+    case ZEM_OVERRUN: return "the entry was overwritten";
+    case ZEM_CLOSED: return "there is no seat";
+    case ZEM_WIDTH: return "an entry has another number of words";
+    case ZEM_SPENT: return "the seat has put as many entries as it may";
+    case ZEM_MEMORY: return "there is no memory";
+    case ZEM_BAD_BLOCKS: return "a queue has 2 to 256 blocks";
+    case ZEM_BAD_SIZE: return "a block has 1 to 65536 entries";
+    case ZEM_BAD_WIDTH: return "an entry has 1 to 8 words";
+    case ZEM_BAD_SEATS: return "a queue has 1 to 1024 seats";
+    default: return "no code of this library";
+    }
+}
+
+#ifdef __cplusplus
+}
+#endif
+
+#endif

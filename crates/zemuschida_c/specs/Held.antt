@@ -1,0 +1,24 @@
+-- What a slot may hold.
+use mathlib.Core.Bool.{Bool, true, false}
+use Rattle.std.specs.declared.option.Option.{Option}
+use Rattle.std.specs.declared.option.Option.TheVariants.{None, Some}
+use Rattle.zemuschida_c.specs.declared.held.Held.{Held}
+use Rattle.zemuschida_c.specs.declared.held.Held.TheVariants.{Seat, RingSeat}
+
+-- whether there is a value
+abbrev pub is_full : {A : Type 0} → Option A → Bool
+is_full None = false
+is_full (Some x) = true
+
+-- whether a value, if there is one, is of this kind
+abbrev pub fits : {A : Type 0} → (A → Bool) → Option A → Bool
+fits is_kind None = true
+fits is_kind (Some x) = is_kind x
+
+abbrev pub is_seat : Held → Bool
+is_seat (Seat seat) = true
+is_seat (RingSeat seat) = false
+
+abbrev pub is_ring_seat : Held → Bool
+is_ring_seat (Seat seat) = false
+is_ring_seat (RingSeat seat) = true

@@ -1,0 +1,7 @@
+pub mod Calls
+pub mod Codes
+pub mod Held
+pub mod Made
+pub mod Owned
+pub mod Seats
+pub mod Slot

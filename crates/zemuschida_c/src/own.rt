@@ -1,0 +1,94 @@
+//! A seat with its queue.
+ghost use Rattle.std.specs.Prelude.{◌≡◌, ◌≢◌, ◌<◌, ◌≤◌, length};
+ghost use Rattle.std.specs.Arc.{arc_value};
+ghost use Rattle.cursor_word.specs.Cursor.{most_puts};
+ghost use Rattle.zemuschida_c.specs.Calls.{GivesPut, GivesTake};
+ghost use Rattle.zemuschida_c.specs.Codes.{spent, wrong_width};
+
+use crate::answer::{SPENT, WIDTH, ZemAnswer, give_put, give_take};
+use rail::Rail;
+use std::alloc::Global;
+use std::marker::Model;
+use std::sync::Arc;
+
+/// A seat, and an owner of the queue that it was made with.
+#[derive(Drop)]
+pub struct OwnSeat<Q: Rail> {
+    rail: Arc<Q, Global>,
+    seat: Q::Seat,
+    // keeps the counts of two seats off one cache line
+    apart: [u64; 12],
+}
+
+impl<Q: Rail> Model for OwnSeat<Q> {
+    ghost use Rattle.std.specs.Arc.{arc_value};
+    ghost use Rattle.zemuschida_c.specs.Owned.{Owned};
+
+    ghost Value = { Owned Q Q.Seat };
+
+    ghost view = { λ s. record { rail = arc_value s.rail; seat = s.seat } };
+
+    ghost invariant = { λ s. Q.PutsInto (arc_value s.rail) s.seat
+        × Q.TakesFrom (arc_value s.rail) s.seat };
+}
+
+impl<Q: Rail> OwnSeat<Q> {
+    pub(crate) fn of(rail: Arc<Q, Global>, seat: Q::Seat) -> OwnSeat<Q>
+        requires puts { Q.PutsInto (arc_value rail) seat }
+        requires takes { Q.TakesFrom (arc_value rail) seat }
+        ensures rail { result.rail ≡ arc_value rail }
+        ensures seat { result.seat ≡ seat }
+    {
+        OwnSeat {
+            rail,
+            seat,
+            apart: [0; 12],
+        }
+    }
+
+    /// Puts an entry of the queue's width, where the seat isn't spent.
+    #[inline(always)]
+    pub(crate) fn put(&mut self, entry: &[u64], answer: &mut ZemAnswer) -> u32
+        ensures rail { self.new.rail ≡ self.old.rail }
+        ensures number { Q.number_of self.new.seat ≡ Q.number_of self.old.seat }
+        ensures taken { Q.taken self.new.seat ≡ Q.taken self.old.seat }
+        ensures width { length entry.now ≢ (Q.shape_of self.old.rail).width
+            → (result ≡ wrong_width) × (self.new ≡ self.old) × (answer.new ≡ answer.old) }
+        ensures spent { length entry.now ≡ (Q.shape_of self.old.rail).width
+            → most_puts (Q.shape_of self.old.rail) ≤ length (Q.made self.old.seat)
+            → (result ≡ spent) × (self.new ≡ self.old) × (answer.new ≡ answer.old) }
+        ensures puts { length entry.now ≡ (Q.shape_of self.old.rail).width
+            → length (Q.made self.old.seat) < most_puts (Q.shape_of self.old.rail)
+            → GivesPut (Q.shape_of self.old.rail) Q.DROPS entry.now (Q.made self.old.seat)
+            (Q.made self.new.seat) (Q.told self.new.seat).found result answer.new }
+    {
+        let shape = self.rail.shape();
+        if entry.len() as u64 != shape.width() {
+            return WIDTH;
+        }
+        if Q::puts(&self.seat) >= shape.most_puts() {
+            return SPENT;
+        }
+        give_put(&self.rail.put(&mut self.seat, entry), answer)
+    }
+
+    /// Takes an entry into words of the queue's width.
+    #[inline(always)]
+    pub(crate) fn take(&mut self, out: &mut [u64], answer: &mut ZemAnswer) -> u32
+        ensures rail { self.new.rail ≡ self.old.rail }
+        ensures number { Q.number_of self.new.seat ≡ Q.number_of self.old.seat }
+        ensures made { Q.made self.new.seat ≡ Q.made self.old.seat }
+        ensures width { length out.old ≢ (Q.shape_of self.old.rail).width
+            → (result ≡ wrong_width) × (self.new ≡ self.old) × (out.new ≡ out.old)
+            × (answer.new ≡ answer.old) }
+        ensures takes { length out.old ≡ (Q.shape_of self.old.rail).width
+            → GivesTake (Q.shape_of self.old.rail) Q.DROPS (Q.made self.new.seat) out.old out.new
+            (Q.taken self.old.seat) (Q.taken self.new.seat) (Q.told self.new.seat).found result
+            answer.new }
+    {
+        if out.len() as u64 != self.rail.shape().width() {
+            return WIDTH;
+        }
+        give_take(&self.rail.take(&mut self.seat, out), answer)
+    }
+}
