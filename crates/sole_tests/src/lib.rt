@@ -9,3 +9,5 @@ mod random;
 mod schedules;
 #[cfg(test)]
 mod stopped;
+#[cfg(test)]
+mod threads;
