@@ -8,10 +8,10 @@ use denote.Struct.Declared as declared
 use denote.Struct.Owning.{fields, shape, to}
 use denote.Struct.Struct.{Struct, exits_of}
 use Rattle.std.specs.Prelude.{None, Option, Some}
-use Rattle.libc.specs.Heap.{chunk-Keyless}
 use Rattle.std.specs.contracts.mem.ManuallyDrop as ManuallyDrop
+use Rattle.std.proofs.Crossing as crossing
 use Rattle.std_alloc.proofs.SendSync.{lies, quiet}
-use Rattle.zemuschida_c.specs.Slot.{kept_row, slot_owns}
+use Rattle.zemuschida_c.specs.Slot.{heap, kept_row, slot_owns}
 use Rattle.zemuschida_c.specs.contracts.held.Held as Held
 use Rattle.zemuschida_c.specs.contracts.slot.Slot.{the_row, the_type}
 use Rattle.zemuschida_c.proofs.held.Held.TheSendSync.{the_send}
@@ -21,7 +21,7 @@ kept = let T = ManuallyDrop.the_type Held.the_row in recorded_send (Struct (decl
 
 keyless : (p : Ptr) (value : Option Held.the_row.Denot) → Keyless (slot_owns p value)
 keyless p None = tt
-keyless p (Some held) = (lies kept_row kept p (record { value = held }), chunk-Keyless (raw (lone kept_row.mir)) p)
+keyless p (Some held) = (lies kept_row kept p (record { value = held }), crossing.frees.frees heap (raw (lone kept_row.mir)) p)
 
 pub send : IsSend the_row
 send = let word : AllSend (fields the_type) = (search sendable, tt) in

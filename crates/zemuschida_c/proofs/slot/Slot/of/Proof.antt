@@ -34,8 +34,7 @@ use Rattle.std_alloc.specs.contracts.boxed.Box.into_raw as into_raw
 use Rattle.std_alloc.proofs.boxed.Box.into_raw.Met as given_up
 use Rattle.std_heap.specs.contracts.GlobalAllocator.TheImpl.{ghosts, dict}
 use Rattle.std_heap.proofs.GlobalAllocator.TheImpl.Met as allocator
-use Rattle.libc.specs.Heap.{chunk}
-use Rattle.zemuschida_c.specs.Slot.{kept_row}
+use Rattle.zemuschida_c.specs.Slot.{heap, kept_row}
 use Rattle.zemuschida_c.specs.contracts.slot.Slot as slot
 use Rattle.zemuschida_c.specs.contracts.slot.Slot.of as f
 use Rattle.zemuschida_c.proofs.Boxes.{box_row, whole_row, whole_laws, box_lawful, heap_row, heap_row_laws, no_drop}
@@ -69,7 +68,7 @@ of_spec {M} 𝓤 𝓛 𝓜 𝓡 wired =
     lasts_for_ever ! $ join ! $
     nothing ! $ states ! _ (⊑_static []) $ states ! _ (⊑_static []) $ move ! (1 ∷ 0 ∷ []) $ join ! $ use1 𝓛 (raw (Raw.pre z)) (id⊢ 𝓤 _) $
     calls_at ! (framed 𝓤 𝓛.H 𝓜 𝓣) Raw met z (and_then ! (get ! refl) (no_more !)) (λ u.
-    use1 𝓛 (later (some (λ (p : Ptr). (for_ever ⊛ ‵ (RawPtr.own_val p (u ∷ []))) ⊛ some (λ (ws : Lasts given z.0.0 z.0.3). ‵ (lasts given z.0.0 z.0.3 ws) ⊛ ‵ (box_owns chunk kept_row p whole.value))))) (id⊢ 𝓤 _) $
+    use1 𝓛 (later (some (λ (p : Ptr). (for_ever ⊛ ‵ (RawPtr.own_val p (u ∷ []))) ⊛ some (λ (ws : Lasts given z.0.0 z.0.3). ‵ (lasts given z.0.0 z.0.3 ws) ⊛ ‵ (box_owns (ghosts.dealloc_token heap) kept_row p whole.value))))) (id⊢ 𝓤 _) $
     await ! tt $ pick ! (λ p. split ! $ split ! $ drop ! $ feq_l ! (λ is. pick ! (λ ws. split ! $ drop ! $
     let fits = (rawptr_Lawful 𝓛).typed p _ refl in
     lands_as ! (ap only is) refl fits.0 $
