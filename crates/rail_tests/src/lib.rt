@@ -6,6 +6,8 @@ mod calls;
 #[cfg(test)]
 mod claims;
 #[cfg(test)]
+mod flight_views;
+#[cfg(test)]
 mod gathering;
 #[cfg(test)]
 mod list_queue;
