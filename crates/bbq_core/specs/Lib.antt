@@ -7,7 +7,6 @@ pub mod Cursors
 pub mod Counts
 pub mod Sound
 pub mod Laws
-pub mod Gathered
 pub mod Alone
 pub mod Moments
 pub mod Causes

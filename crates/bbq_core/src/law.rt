@@ -12,7 +12,7 @@ ghost use Rattle.bbq_core.specs.Laws.{TakenOnce, most_steps, steps_of_phase};
 ghost use Rattle.bbq_core.specs.Stage.{stage};
 ghost use Rattle.put_side.specs.Laws.{BlocksAreSmall, MadeRises, PlacesAreDense, TakenIsMade, TakenRises, WordsAreSmall};
 ghost use Rattle.put_side.specs.Cursors.{consumed_word};
-ghost use Rattle.bbq_core.specs.Gathered.{IsSettled};
+ghost use Rattle.put_side.specs.Settled.{IsSettled};
 
 use cursor_word::Shape;
 use machine::Event;
@@ -43,7 +43,8 @@ pub fn law_taken(shape: &Shape, events: &[Event])
     ensures once { (n : ℕ) → TakenOnce shape.now (moment table shape.now events.now n).views }
     ensures rising { (n : ℕ) → TakenRises (moment table shape.now events.now n).views }
     ensures outcome { (n : ℕ) → AllRest (moment table shape.now events.now n).views
-        → IsSettled shape.now (moment table shape.now events.now n) }
+        → IsSettled shape.now (moment table shape.now events.now n).words
+        (moment table shape.now events.now n).views }
 {
     let _blocks = shape.blocks();
 }

@@ -13,7 +13,8 @@ use Rattle.cursor_word.specs.declared.cursor.Cursor.{Cursor}
 use Rattle.rail.specs.declared.entry.Placed.{Placed}
 use Rattle.rail.specs.Items.{placed}
 use Rattle.machine.specs.Entries.{entry_at}
-use Rattle.call_laws.specs.Left.{is_unreserved, left_in, unreserved_in}
+use Rattle.call_laws.specs.Left.{is_unreserved, unreserved_in}
+use Rattle.machine.specs.Entries.{left_in}
 
 map_more : {X : Type 0} (f : ℕ → X) (a n : ℕ) → map f (range_with_len a (suc n)) ≡ map f (range_with_len a n) ++ f (a + n) ∷ []
 map_more f a n = let one : suc n ≡ n + 1 = omega arith in ap (λ (k : ℕ). map f (range_with_len a k)) one ∙ map-range_with_len_more f a n (a + n) refl

@@ -4,7 +4,8 @@ ghost use Rattle.rail.specs.Items.{placed};
 ghost use Rattle.cursor_word.specs.Cursor.{place_span};
 ghost use Rattle.cursor_word.specs.Layout.{word_count};
 ghost use Rattle.machine.specs.Entries.{entry_at};
-ghost use Rattle.call_laws.specs.Left.{is_unreserved, left_in, unreserved_in};
+ghost use Rattle.call_laws.specs.Left.{is_unreserved, unreserved_in};
+ghost use Rattle.machine.specs.Entries.{left_in};
 
 use cursor_word::{Cursor, Shape, entry_word, reserved};
 use rail::{Batch, Entry, Placed};

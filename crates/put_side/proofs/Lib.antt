@@ -20,5 +20,6 @@ pub mod Made
 pub mod Few
 pub mod Permutes
 pub mod Rests
+pub mod Settles
 pub mod InTime
 pub mod SeatItems

@@ -7,4 +7,5 @@ pub mod PutSide
 pub mod PutTable
 pub mod Manned
 pub mod Gathered
+pub mod Settled
 pub mod Laws

@@ -19,6 +19,8 @@ mod looks;
 #[cfg(test)]
 mod many_threads;
 #[cfg(test)]
+mod newcomer;
+#[cfg(test)]
 mod one_seat;
 mod passage;
 #[cfg(test)]

@@ -15,7 +15,8 @@ use Rattle.machine.specs.declared.view.View.{View}
 use Rattle.machine.specs.Table.{Table}
 use Rattle.machine.specs.Invariant.{Fact}
 use Rattle.put_side.specs.Gathered.{all_made, all_taken}
-use Rattle.call_laws.specs.Left.{left_in}
+use Rattle.put_side.specs.Settled.{IsSettled}
+use Rattle.machine.specs.Entries.{left_in}
 use Rattle.call_steps.specs.Queue.{SeatedWith}
 use Rattle.shared_seats.specs.Memory.{Knowledge}
 use Rattle.shared_seats.specs.Seats.{StandStill, in_order, made_by_all, taken_by_all, views_of_all}
@@ -24,7 +25,7 @@ use Rattle.shared_seats.proofs.Ordered.{ordered}
 use Rattle.shared_seats.proofs.Parted.{parted_permuted}
 use Rattle.shared_seats.proofs.Stepped.{few_places}
 use Rattle.retry_close.specs.Closed.{first_taken}
-use Rattle.retry_close.specs.Settles.{IsSettled, Settles}
+use Rattle.retry_close.specs.Settles.{Settles}
 
 module _ {P M : Type 0} (t : Table P) (Holds : Fact P) (Knows : Knowledge P M) (settles : Settles Holds) (g : Grid) (words : List ℕ) (seats : List (SeatedWith P M)) (still : StandStill t Holds Knows g words seats) where
   abbrev vs : List (View P)

@@ -1,9 +1,8 @@
 -- Where the order of the seats is of no matter, what holds of them in order of their numbers holds of them as they are listed.
-use Rattle.std.proofs.Common.{◌≡◌, ℕ, List, All, IsPermutation, map, length, get_or, sym, ◌∙◌, subst}
+use Rattle.std.proofs.Common.{ℕ, List, All, IsPermutation, map, get_or, ◌∙◌, subst}
 use mathlib.Core.List.{map-map}
 use Rattle.std.proofs.lemmas.List.Sorted.{IsPermutation-sym, length_permutation}
 use Rattle.cursor_word.specs.Shape.{Grid}
-use Rattle.machine.specs.declared.view.View.{View}
 use Rattle.machine.specs.Table.{Table}
 use Rattle.machine.specs.Invariant.{Fact}
 use Rattle.call_laws.specs.Seats.{IsOrderless}

@@ -1,5 +1,5 @@
 -- A load that only its seat's memory tells of keeps the rule.
-use Rattle.std.proofs.Common.{◌≡◌, ℕ, zero, suc, ◌<◌, List, [], ◌∷◌, ◌++◌, set, length, IsPermutation, refl, sym, ap, ◌∙◌, subst, ⊎_elim, arith}
+use Rattle.std.proofs.Common.{◌≡◌, ℕ, zero, suc, List, [], ◌∷◌, ◌++◌, set, length, IsPermutation, refl, sym, ap, ◌∙◌, subst, ⊎_elim, arith}
 use Rattle.std.specs.Prelude.{Some, slice_get, slice_index, slice_set}
 use Rattle.std.proofs.lemmas.List.{set-get_or}
 use Rattle.std.proofs.lemmas.List.Sorted.{IsPermutation-sym, IsPermutation-trans}
@@ -14,7 +14,7 @@ use Rattle.machine.specs.Invariant.{Fact}
 use Rattle.shared_seats.specs.declared.holding.Holding.{Holding}
 use Rattle.shared_seats.specs.declared.holding.Numbered.{Numbered}
 use Rattle.shared_seats.specs.Memory.{KeepsMemory, Knowledge}
-use Rattle.shared_seats.specs.Holding.{AreInOrder, HasLoaded, IsHeld, IsRemembered, holding, memory_in, numbered, numbered_from, seats_of, view_in}
+use Rattle.shared_seats.specs.Holding.{AreInOrder, HasLoaded, IsHeld, holding, memory_in, numbered, numbered_from, seats_of, view_in}
 use Rattle.shared_seats.proofs.Held.{seats}
 use Rattle.shared_seats.proofs.Numbered.{at_number}
 use Rattle.shared_seats.proofs.Parted.{replaced}

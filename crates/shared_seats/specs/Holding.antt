@@ -49,7 +49,8 @@ module _ {P M : Type 0} where
   abbrev pub memory_in : M → Holding P M → M
   memory_in none held = get_or held.memories 0 none
 
-  -- A split hands out the first of the seats that one stands for, a join puts those of two together.
+  -- A split hands out the first of the seats that one stands for, a join puts those of two
+  -- together.
   abbrev pub first_seat : Holding P M → Holding P M
   first_seat held = holding held.shape (take 1 held.seats) (take 1 held.memories)
 

@@ -10,8 +10,8 @@ pub struct Numbered<P> {
 }
 
 /// The shape of the queue, and of each seat of the queue that this one stands for its number, what
-/// the machine knows of it and what it remembers beside. No value of it is made. A seat that another
-/// took in stands for none.
+/// the machine knows of it and what it remembers beside. No value of it is made. A seat that
+/// another took in stands for none.
 pub struct Holding<P, M> {
     pub shape: Shape,
     pub seats: LinkedList<Numbered<P>>,

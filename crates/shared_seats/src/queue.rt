@@ -1,5 +1,5 @@
 //! A queue whose seats may each be used from a thread of its own.
-ghost use Rattle.std.specs.Prelude.{◌≡◌, ℕ, ◌<◌, List, [], ◌∷◌, ◌++◌, Some, IfOk, All, map, length};
+ghost use Rattle.std.specs.Prelude.{◌≡◌, ◌<◌, List, [], ◌∷◌, ◌++◌, Some, IfOk, All, map, length};
 ghost use Rattle.cursor_word.specs.Shape.{IsWithinLimits};
 ghost use Rattle.rail.specs.Outcome.{numbers_below};
 ghost use Rattle.cursor_word.specs.Cursor.{most_puts};

@@ -1,6 +1,5 @@
 //! The seats of a queue: how they are dealt when it is made, and gathered when it is closed.
-ghost use Rattle.std.specs.Prelude.{◌≡◌, ℕ, ◌-◌, ◌^◌, ◌<◌, ◌≤◌, List, [], ◌∷◌, None, IfOk, All, IsPermutation, map, length, min};
-ghost use Rattle.cursor_word.specs.Layout.{word_count};
+ghost use Rattle.std.specs.Prelude.{◌≡◌, ◌-◌, ◌^◌, ◌<◌, ◌≤◌, [], ◌∷◌, None, IfOk, All, IsPermutation, map, length, min};
 ghost use Rattle.rail.specs.Outcome.{numbers_below};
 ghost use Rattle.machine.specs.Steps.{resting};
 ghost use Rattle.call_steps.specs.Queue.{IsFresh, SeatedWith};

@@ -13,7 +13,7 @@ ghost use Rattle.sole_core.specs.Laws.{NoneElseTakes, TakenInOrder, most_steps, 
 ghost use Rattle.sole_core.specs.Stage.{stage};
 ghost use Rattle.put_side.specs.Laws.{BlocksAreSmall, MadeRises, PlacesAreDense, TakenIsMade, WordsAreSmall};
 ghost use Rattle.put_side.specs.Cursors.{consumed_word};
-ghost use Rattle.sole_core.specs.Gathered.{IsSettled};
+ghost use Rattle.put_side.specs.Settled.{IsSettled};
 
 use cursor_word::Shape;
 use machine::Event;
@@ -45,7 +45,8 @@ pub fn sole_law_taken(shape: &Shape, events: &[Event])
     ensures in_order { (n : ℕ) → TakenInOrder (moment table shape.now events.now n).views }
     ensures none_else { (n : ℕ) → NoneElseTakes (moment table shape.now events.now n).views }
     ensures outcome { (n : ℕ) → AllRest (moment table shape.now events.now n).views
-        → IsSettled shape.now (moment table shape.now events.now n) }
+        → IsSettled shape.now (moment table shape.now events.now n).words
+        (moment table shape.now events.now n).views }
 {
     let _blocks = shape.blocks();
 }

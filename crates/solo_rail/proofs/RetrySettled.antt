@@ -8,17 +8,14 @@ use Rattle.cursor_word.proofs.Places.{most_puts_to}
 use Rattle.rail.specs.declared.entry.Placed.{Placed}
 use Rattle.rail.specs.Items.{IsRising, places}
 use Rattle.rail.specs.Outcome.{IsAccepted, RetryOutcome}
-use Rattle.machine.specs.Invariant.{made_total}
-use Rattle.put_side.specs.Gathered.{all_taken}
-use Rattle.call_laws.specs.Left.{left_in}
+use Rattle.put_side.specs.Gathered.{all_made, all_taken}
+use Rattle.put_side.specs.Settled.{IsSettled}
+use Rattle.machine.specs.Entries.{left_in}
 use Rattle.bbq_core.specs.Types.{MachineState, View}
-use Rattle.bbq_core.specs.Gathered.{IsSettled}
 use Rattle.bbq_core.specs.Sound.{IsSound}
 use Rattle.bbq_core.proofs.Reached.{made_rises, taken_rises}
 use Rattle.bbq_core.proofs.Settles.{settled}
 use Rattle.solo_rail.specs.Solo.{HasStopped}
-use Rattle.solo_rail.proofs.Kept.{made_one}
-use Rattle.solo_rail.proofs.RetryAlone.{taken_one}
 use Rattle.solo_rail.proofs.Stops.{accepted_is, rest_one, whole}
 
 module _ (g : Grid) (words : List ℕ) (v : View) (stopped : HasStopped IsSound g words v) where
@@ -28,8 +25,8 @@ module _ (g : Grid) (words : List ℕ) (v : View) (stopped : HasStopped IsSound 
   pub few_places : length v.made ≤ place_span g
   few_places = let few = stopped.few in let most = most_puts_to g in omega arith
 
-  s : IsSettled g state
-  s = settled g state stopped.limits stopped.holds (rest_one v stopped.rest)
+  s : IsSettled g words (v ∷ [])
+  s = settled g words (v ∷ []) stopped.limits stopped.holds (rest_one v stopped.rest)
 
   rises : IsRising (places v.made)
   rises = made_rises g state stopped.holds 0 v refl
@@ -40,10 +37,10 @@ module _ (g : Grid) (words : List ℕ) (v : View) (stopped : HasStopped IsSound 
   outcome : RetryOutcome v.made v.taken (left_in g words (length v.taken) (length v.made))
   outcome =
       let taken : all_taken (v ∷ []) ≡ v.taken = append-nil v.taken in
+      let made : all_made (v ∷ []) ≡ v.made = append-nil v.made in
       subst (λ (l : List Placed). RetryOutcome l v.taken (left_in g words (length v.taken) (length v.made))) (accepted_is v s.accepted s.is_accepted rises)
-      (subst (λ (l : List Placed). RetryOutcome s.accepted l (left_in g words (length v.taken) (length v.made))) taken
-      (subst (λ (n : ℕ). RetryOutcome s.accepted (all_taken (v ∷ [])) (left_in g words (length v.taken) n)) (made_one v)
-      (subst (λ (t : ℕ). RetryOutcome s.accepted (all_taken (v ∷ [])) (left_in g words t (made_total (v ∷ [])))) (taken_one v) s.outcome)))
+      (subst (λ (l : List Placed). RetryOutcome s.accepted l (left_in g words (length l) (length v.made))) taken
+      (subst (λ (l : List Placed). RetryOutcome s.accepted (all_taken (v ∷ [])) (left_in g words (length (all_taken (v ∷ []))) (length l))) made s.outcome))
 
   pub retry_order : IsRising (places v.taken)
   retry_order = taken_rises g state stopped.holds 0 v refl

@@ -1,4 +1,4 @@
-use Rattle.std.proofs.Common.{◌≡◌, ℕ, ap, arith, sym, ◌∙◌}
+use Rattle.std.proofs.Common.{ap, arith, sym, ◌∙◌}
 use Rattle.std.specs.Prelude.{◌%◌, nat_le, slice_index}
 use Rattle.cursor_word.specs.Cursor.{packed}
 use Rattle.cursor_word.specs.Layout.{index_of, reserved}

@@ -1,5 +1,5 @@
 use Rattle.std.specs.Prelude.{◌≡◌, ◌+◌, ◌≤◌, ◌++◌}
-use Rattle.call_laws.specs.Left.{left_in}
+use Rattle.machine.specs.Entries.{left_in}
 use Rattle.call_steps.proofs.left.read_left.Given as goal
 
 abbrev pub invariant-loop-place : goal.invariant-loop-place

@@ -2,7 +2,7 @@ use Rattle.std.proofs.Common.{◌≡◌, ◌+◌, ◌++◌, ◌∙◌, ap, arith
 use Rattle.cursor_word.specs.Cursor.{place_span}
 use Rattle.rail.specs.Items.{IsRising, places}
 use Rattle.rail.specs.Outcome.{IsAccepted, RetryOutcome}
-use Rattle.call_laws.specs.Left.{left_in}
+use Rattle.machine.specs.Entries.{left_in}
 use Rattle.call_steps.specs.Queue.{Seated}
 use Rattle.shared_seats.specs.Seats.{in_order, made_by_all, taken_by_all}
 use Rattle.retry_close.specs.Closed.{first_taken}

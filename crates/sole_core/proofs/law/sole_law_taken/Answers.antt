@@ -13,4 +13,4 @@ pub returns-clause-none_else : goal.returns-clause-none_else
 returns-clause-none_else c = λ n. none_else _ _ (moment_sound c.args.shape.now c.args.events.now c.blocks-blocks.ensures.limits c.requires.suits c.requires.few n)
 
 pub returns-clause-outcome : goal.returns-clause-outcome
-returns-clause-outcome c = λ n rest. settled _ _ c.blocks-blocks.ensures.limits (moment_sound c.args.shape.now c.args.events.now c.blocks-blocks.ensures.limits c.requires.suits c.requires.few n) rest
+returns-clause-outcome c = λ n rest. settled _ _ _ c.blocks-blocks.ensures.limits (moment_sound c.args.shape.now c.args.events.now c.blocks-blocks.ensures.limits c.requires.suits c.requires.few n) rest

@@ -1,5 +1,4 @@
 use Rattle.std.proofs.Common.{◌∙◌, ap, arith, length, sym}
-use Rattle.machine.specs.declared.op.After.TheVariants.{Next}
 use Rattle.call_steps.proofs.Lengths.{take_counts}
 use Rattle.shared_seats.proofs.Unmoved.{same_memory, still_held, unmoved}
 use Rattle.shared_seats.proofs.queue.SharedQueue.take.Goals as goal

@@ -1,6 +1,6 @@
 use Rattle.std.proofs.Common.{◌≡◌, ◌+◌, ◌-◌, ◌++◌, length, ap, ◌∙◌, arith}
 use Rattle.cursor_word.specs.Cursor.{place_span}
-use Rattle.call_laws.specs.Left.{left_in}
+use Rattle.machine.specs.Entries.{left_in}
 use Rattle.solo_rail.proofs.RetrySettled.{few_places, fewer, retry_left, retry_order, retry_whole}
 use Rattle.solo_rail.proofs.solo_retry.SoloRetry.finish.Goals as goal
 
