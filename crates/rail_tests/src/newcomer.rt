@@ -15,6 +15,7 @@ fn an_entry_goes_from_one_seat_to_another(rt: HostRuntime) -> Result<(), Fail> {
     assert_eq!(rt; queue.put(&mut seats[0], &[7, 9]), Put::Ok(0)); // its place
     assert_eq!(rt; queue.take(&mut seats[1], &mut words), Take::Ok(0));
     assert_eq!(rt; words, [7, 9]);
-    assert_eq!(rt; queue.take(&mut seats[1], &mut words), Take::Empty { place: 1 });
+    let empty = Take::Empty { place: 1 };
+    assert_eq!(rt; queue.take(&mut seats[1], &mut words), empty);
     Ok(())
 }
