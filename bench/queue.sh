@@ -1,7 +1,8 @@
 #!/usr/bin/env bash
 # Times entries of six words through the queues, beside the same loops over the kit's own queue of 512 entries, and prints nanoseconds an item and ratios:
-# a put and a take by one thread, one producer and one taker, four producers and one taker, and puts that overwrite the oldest entries by one thread and by
-# four. The number of blocks of 64 entries is the one argument, 8 if it is left out.
+# a put and a take by one thread, takes alone, one producer and one taker, four producers and one taker, puts that overwrite the oldest entries by one thread
+# and by four, and by four while another seat looks the whole time. Two ratios are printed besides: that of a take by a sole consumer to one by RetryRail, and
+# that of four overwriting producers beside a looker to those alone. The number of blocks of 64 entries is the one argument, 8 if it is left out.
 set -eu
 top=$(cd "$(dirname "$0")/.." && pwd)
 cd "$top/crates/queue_bench"

@@ -1,4 +1,5 @@
-//! What the command answers with ample memory, on worked texts and with a source or a sink that fails.
+//! What the command answers with ample memory, on worked texts and with a source or a sink that
+//! fails.
 use flow_io::{Clock, MemClock, MemSink, MemSource, MemStore};
 use profile_cli::{Closed, Rails, SoloRails, profile};
 use rail::Rail;
@@ -148,25 +149,85 @@ const TWO_WORKERS: &[&str] = &[
     "ab.txt",
 ];
 
-/// The trace of `a b a` and a newline in `ab.txt` by one worker, with a clock that counts from 0 by ones.
+/// The trace of `a b a` and a newline in `ab.txt` by one worker, with a clock that counts from 0 by
+/// ones.
 pub(crate) const TRACE: &[u8] =
-    b"{\"displayTimeUnit\":\"ms\",\"otherData\":{\"accepted\":2,\"kept\":2},\"traceEvents\":[{\"args\":{\"name\":\"worker 1\"},\"name\":\"thread_name\",\"ph\":\"M\",\"pid\":1,\"tid\":1},{\"args\":{\"depth\":1,\"file\":0,\"piece\":0,\"total\":3,\"words\":3},\"cat\":\"piece\",\"dur\":1,\"name\":\"ab.txt\",\"ph\":\"X\",\"pid\":1,\"tid\":1,\"ts\":1},{\"args\":{\"words\":3},\"name\":\"words 1\",\"ph\":\"C\",\"pid\":1,\"tid\":1,\"ts\":2},{\"args\":{\"depth\":0,\"pieces\":1,\"total\":3,\"words\":3},\"cat\":\"worker\",\"dur\":3,\"name\":\"worker\",\"ph\":\"X\",\"pid\":1,\"tid\":1,\"ts\":0}]}\n";
+    b"{\"displayTimeUnit\":\"ms\",\"otherData\":{\"accepted\":2,\"kept\":2},\
+      \"traceEvents\":[\
+      {\"args\":{\"name\":\"worker 1\"},\
+        \"name\":\"thread_name\",\"ph\":\"M\",\"pid\":1,\"tid\":1},\
+      {\"args\":{\"depth\":1,\"file\":0,\"piece\":0,\"total\":3,\"words\":3},\
+        \"cat\":\"piece\",\"dur\":1,\"name\":\"ab.txt\",\"ph\":\"X\",\"pid\":1,\"tid\":1,\"ts\":1},\
+      {\"args\":{\"words\":3},\
+        \"name\":\"words 1\",\"ph\":\"C\",\"pid\":1,\"tid\":1,\"ts\":2},\
+      {\"args\":{\"depth\":0,\"pieces\":1,\"total\":3,\"words\":3},\
+        \"cat\":\"worker\",\"dur\":3,\"name\":\"worker\",\"ph\":\"X\",\"pid\":1,\"tid\":1,\"ts\":0}]}\n";
 
 /// The trace of an empty file by two workers.
-const IDLE: &[u8] =
-    b"{\"displayTimeUnit\":\"ms\",\"otherData\":{\"accepted\":2,\"kept\":2},\"traceEvents\":[{\"args\":{\"name\":\"worker 1\"},\"name\":\"thread_name\",\"ph\":\"M\",\"pid\":1,\"tid\":1},{\"args\":{\"name\":\"worker 2\"},\"name\":\"thread_name\",\"ph\":\"M\",\"pid\":1,\"tid\":2},{\"args\":{\"depth\":0,\"pieces\":0,\"total\":0,\"words\":0},\"cat\":\"worker\",\"dur\":1,\"name\":\"worker\",\"ph\":\"X\",\"pid\":1,\"tid\":1,\"ts\":0},{\"args\":{\"depth\":0,\"pieces\":0,\"total\":0,\"words\":0},\"cat\":\"worker\",\"dur\":1,\"name\":\"worker\",\"ph\":\"X\",\"pid\":1,\"tid\":2,\"ts\":0}]}\n";
+const IDLE: &[u8] = b"{\"displayTimeUnit\":\"ms\",\"otherData\":{\"accepted\":2,\"kept\":2},\
+      \"traceEvents\":[\
+      {\"args\":{\"name\":\"worker 1\"},\
+        \"name\":\"thread_name\",\"ph\":\"M\",\"pid\":1,\"tid\":1},\
+      {\"args\":{\"name\":\"worker 2\"},\
+        \"name\":\"thread_name\",\"ph\":\"M\",\"pid\":1,\"tid\":2},\
+      {\"args\":{\"depth\":0,\"pieces\":0,\"total\":0,\"words\":0},\
+        \"cat\":\"worker\",\"dur\":1,\"name\":\"worker\",\"ph\":\"X\",\"pid\":1,\"tid\":1,\"ts\":0},\
+      {\"args\":{\"depth\":0,\"pieces\":0,\"total\":0,\"words\":0},\
+        \"cat\":\"worker\",\"dur\":1,\"name\":\"worker\",\"ph\":\"X\",\"pid\":1,\"tid\":2,\"ts\":0}]}\n";
 
-/// The trace of two such files by two workers, in pieces of at least four bytes but for the last of each.
-const TWICE: &[u8] =
-    b"{\"displayTimeUnit\":\"ms\",\"otherData\":{\"accepted\":6,\"kept\":6},\"traceEvents\":[{\"args\":{\"name\":\"worker 1\"},\"name\":\"thread_name\",\"ph\":\"M\",\"pid\":1,\"tid\":1},{\"args\":{\"name\":\"worker 2\"},\"name\":\"thread_name\",\"ph\":\"M\",\"pid\":1,\"tid\":2},{\"args\":{\"depth\":1,\"file\":0,\"piece\":0,\"total\":3,\"words\":3},\"cat\":\"piece\",\"dur\":1,\"name\":\"ab.txt\",\"ph\":\"X\",\"pid\":1,\"tid\":1,\"ts\":1},{\"args\":{\"words\":3},\"name\":\"words 1\",\"ph\":\"C\",\"pid\":1,\"tid\":1,\"ts\":2},{\"args\":{\"depth\":1,\"file\":0,\"piece\":1,\"total\":3,\"words\":0},\"cat\":\"piece\",\"dur\":1,\"name\":\"ab.txt\",\"ph\":\"X\",\"pid\":1,\"tid\":1,\"ts\":3},{\"args\":{\"words\":3},\"name\":\"words 1\",\"ph\":\"C\",\"pid\":1,\"tid\":1,\"ts\":4},{\"args\":{\"depth\":1,\"file\":1,\"piece\":2,\"total\":6,\"words\":3},\"cat\":\"piece\",\"dur\":1,\"name\":\"ab.txt\",\"ph\":\"X\",\"pid\":1,\"tid\":1,\"ts\":5},{\"args\":{\"words\":6},\"name\":\"words 1\",\"ph\":\"C\",\"pid\":1,\"tid\":1,\"ts\":6},{\"args\":{\"depth\":1,\"file\":1,\"piece\":3,\"total\":6,\"words\":0},\"cat\":\"piece\",\"dur\":1,\"name\":\"ab.txt\",\"ph\":\"X\",\"pid\":1,\"tid\":1,\"ts\":7},{\"args\":{\"words\":6},\"name\":\"words 1\",\"ph\":\"C\",\"pid\":1,\"tid\":1,\"ts\":8},{\"args\":{\"depth\":0,\"pieces\":4,\"total\":6,\"words\":6},\"cat\":\"worker\",\"dur\":9,\"name\":\"worker\",\"ph\":\"X\",\"pid\":1,\"tid\":1,\"ts\":0},{\"args\":{\"depth\":0,\"pieces\":0,\"total\":0,\"words\":0},\"cat\":\"worker\",\"dur\":1,\"name\":\"worker\",\"ph\":\"X\",\"pid\":1,\"tid\":2,\"ts\":0}]}\n";
+/// The trace of two such files by two workers, in pieces of at least four bytes but for the last of
+/// each.
+const TWICE: &[u8] = b"{\"displayTimeUnit\":\"ms\",\"otherData\":{\"accepted\":6,\"kept\":6},\
+      \"traceEvents\":[\
+      {\"args\":{\"name\":\"worker 1\"},\
+        \"name\":\"thread_name\",\"ph\":\"M\",\"pid\":1,\"tid\":1},\
+      {\"args\":{\"name\":\"worker 2\"},\
+        \"name\":\"thread_name\",\"ph\":\"M\",\"pid\":1,\"tid\":2},\
+      {\"args\":{\"depth\":1,\"file\":0,\"piece\":0,\"total\":3,\"words\":3},\
+        \"cat\":\"piece\",\"dur\":1,\"name\":\"ab.txt\",\"ph\":\"X\",\"pid\":1,\"tid\":1,\"ts\":1},\
+      {\"args\":{\"words\":3},\
+        \"name\":\"words 1\",\"ph\":\"C\",\"pid\":1,\"tid\":1,\"ts\":2},\
+      {\"args\":{\"depth\":1,\"file\":0,\"piece\":1,\"total\":3,\"words\":0},\
+        \"cat\":\"piece\",\"dur\":1,\"name\":\"ab.txt\",\"ph\":\"X\",\"pid\":1,\"tid\":1,\"ts\":3},\
+      {\"args\":{\"words\":3},\
+        \"name\":\"words 1\",\"ph\":\"C\",\"pid\":1,\"tid\":1,\"ts\":4},\
+      {\"args\":{\"depth\":1,\"file\":1,\"piece\":2,\"total\":6,\"words\":3},\
+        \"cat\":\"piece\",\"dur\":1,\"name\":\"ab.txt\",\"ph\":\"X\",\"pid\":1,\"tid\":1,\"ts\":5},\
+      {\"args\":{\"words\":6},\
+        \"name\":\"words 1\",\"ph\":\"C\",\"pid\":1,\"tid\":1,\"ts\":6},\
+      {\"args\":{\"depth\":1,\"file\":1,\"piece\":3,\"total\":6,\"words\":0},\
+        \"cat\":\"piece\",\"dur\":1,\"name\":\"ab.txt\",\"ph\":\"X\",\"pid\":1,\"tid\":1,\"ts\":7},\
+      {\"args\":{\"words\":6},\
+        \"name\":\"words 1\",\"ph\":\"C\",\"pid\":1,\"tid\":1,\"ts\":8},\
+      {\"args\":{\"depth\":0,\"pieces\":4,\"total\":6,\"words\":6},\
+        \"cat\":\"worker\",\"dur\":9,\"name\":\"worker\",\"ph\":\"X\",\"pid\":1,\"tid\":1,\"ts\":0},\
+      {\"args\":{\"depth\":0,\"pieces\":0,\"total\":0,\"words\":0},\
+        \"cat\":\"worker\",\"dur\":1,\"name\":\"worker\",\"ph\":\"X\",\"pid\":1,\"tid\":2,\"ts\":0}]}\n";
 
 /// The trace of five generated words by one worker.
-const GENERATED: &[u8] =
-    b"{\"displayTimeUnit\":\"ms\",\"otherData\":{\"accepted\":2,\"kept\":2},\"traceEvents\":[{\"args\":{\"name\":\"worker 1\"},\"name\":\"thread_name\",\"ph\":\"M\",\"pid\":1,\"tid\":1},{\"args\":{\"depth\":1,\"file\":0,\"piece\":0,\"total\":5,\"words\":5},\"cat\":\"piece\",\"dur\":1,\"name\":\"generated\",\"ph\":\"X\",\"pid\":1,\"tid\":1,\"ts\":1},{\"args\":{\"words\":5},\"name\":\"words 1\",\"ph\":\"C\",\"pid\":1,\"tid\":1,\"ts\":2},{\"args\":{\"depth\":0,\"pieces\":1,\"total\":5,\"words\":5},\"cat\":\"worker\",\"dur\":3,\"name\":\"worker\",\"ph\":\"X\",\"pid\":1,\"tid\":1,\"ts\":0}]}\n";
+const GENERATED: &[u8] = b"{\"displayTimeUnit\":\"ms\",\"otherData\":{\"accepted\":2,\"kept\":2},\
+      \"traceEvents\":[\
+      {\"args\":{\"name\":\"worker 1\"},\
+        \"name\":\"thread_name\",\"ph\":\"M\",\"pid\":1,\"tid\":1},\
+      {\"args\":{\"depth\":1,\"file\":0,\"piece\":0,\"total\":5,\"words\":5},\
+        \"cat\":\"piece\",\"dur\":1,\"name\":\"generated\",\"ph\":\"X\",\"pid\":1,\"tid\":1,\"ts\":1},\
+      {\"args\":{\"words\":5},\
+        \"name\":\"words 1\",\"ph\":\"C\",\"pid\":1,\"tid\":1,\"ts\":2},\
+      {\"args\":{\"depth\":0,\"pieces\":1,\"total\":5,\"words\":5},\
+        \"cat\":\"worker\",\"dur\":3,\"name\":\"worker\",\"ph\":\"X\",\"pid\":1,\"tid\":1,\"ts\":0}]}\n";
 
 /// The trace of the newest two of four spans, those of `a b c` in `abc.txt` by one worker.
 pub(crate) const NEWEST: &[u8] =
-    b"{\"displayTimeUnit\":\"ms\",\"otherData\":{\"accepted\":4,\"kept\":2},\"traceEvents\":[{\"args\":{\"name\":\"worker 1\"},\"name\":\"thread_name\",\"ph\":\"M\",\"pid\":1,\"tid\":1},{\"args\":{\"depth\":1,\"file\":0,\"piece\":2,\"total\":3,\"words\":1},\"cat\":\"piece\",\"dur\":1,\"name\":\"abc.txt\",\"ph\":\"X\",\"pid\":1,\"tid\":1,\"ts\":5},{\"args\":{\"words\":3},\"name\":\"words 1\",\"ph\":\"C\",\"pid\":1,\"tid\":1,\"ts\":6},{\"args\":{\"depth\":0,\"pieces\":3,\"total\":3,\"words\":3},\"cat\":\"worker\",\"dur\":7,\"name\":\"worker\",\"ph\":\"X\",\"pid\":1,\"tid\":1,\"ts\":0}]}\n";
+    b"{\"displayTimeUnit\":\"ms\",\"otherData\":{\"accepted\":4,\"kept\":2},\
+      \"traceEvents\":[\
+      {\"args\":{\"name\":\"worker 1\"},\
+        \"name\":\"thread_name\",\"ph\":\"M\",\"pid\":1,\"tid\":1},\
+      {\"args\":{\"depth\":1,\"file\":0,\"piece\":2,\"total\":3,\"words\":1},\
+        \"cat\":\"piece\",\"dur\":1,\"name\":\"abc.txt\",\"ph\":\"X\",\"pid\":1,\"tid\":1,\"ts\":5},\
+      {\"args\":{\"words\":3},\
+        \"name\":\"words 1\",\"ph\":\"C\",\"pid\":1,\"tid\":1,\"ts\":6},\
+      {\"args\":{\"depth\":0,\"pieces\":3,\"total\":3,\"words\":3},\
+        \"cat\":\"worker\",\"dur\":7,\"name\":\"worker\",\"ph\":\"X\",\"pid\":1,\"tid\":1,\"ts\":0}]}\n";
 
 /// A run of the command over one file, and what it leaves: the name of the trace, its text where that
 /// was worked out, and the second document.
@@ -391,7 +452,8 @@ const CASES: &[Case] = &[
         message: b"bbq-profile: cannot write trace\n",
         ..DONE
     },
-    // The trace is whole, and then there is no room for the name of the folded times, or for five bytes of them.
+    // The trace is whole, and then there is no room for the name of the folded times, or for more
+    // than five bytes of them.
     Case {
         words: &["--workers", "1", "--fold", "ab.txt"],
         world: World {

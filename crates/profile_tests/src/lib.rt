@@ -16,6 +16,8 @@ mod hands;
 #[cfg(test)]
 mod long_traces;
 #[cfg(test)]
+mod meeting;
+#[cfg(test)]
 mod outside;
 #[cfg(test)]
 mod read_traces;

@@ -27,7 +27,8 @@ fn kit_pair(rt: &impl Wait, queue: &ArrayQueue<[u64; 6]>, turn: u64) -> bool {
     queue.pop(rt).is_some_and(|out| out == entry)
 }
 
-/// Pushes `each` entries by each of so many threads and pops them all by one more, and answers how many came whole.
+/// Pushes `each` entries by each of so many threads and pops them all by one more, and answers how
+/// many came whole.
 pub fn kit_pass<R: Threads + Wait + Sync>(
     rt: &R,
     queue: &ArrayQueue<[u64; 6]>,
@@ -56,7 +57,8 @@ pub fn kit_pass<R: Threads + Wait + Sync>(
     kept.into_inner()
 }
 
-/// Pushes so many entries into a queue, which overwrites its oldest one where it is full, and answers how many those and what it holds are together.
+/// Pushes so many entries into a queue, which overwrites its oldest one where it is full, and
+/// answers how many those and what it holds are together.
 pub fn kit_overwrites(rt: &impl Wait, queue: &ArrayQueue<[u64; 6]>, times: u64) -> u64 {
     kit_overwrite(rt, queue, times).wrapping_add(queue.len(rt) as u64)
 }

@@ -1,28 +1,30 @@
-//! Entries through one queue by several threads: through a `RetryRail`, where every seat but the last puts and the last takes, and into any queue, where
-//! every seat puts.
+//! Entries through one queue by several threads: every seat but the first puts and the first takes,
+//! or every seat puts.
 ghost use Rattle.std.specs.Prelude.{◌≡◌, ◌+◌, ◌<◌, ◌≤◌, [], All, length};
 ghost use Rattle.cursor_word.specs.Cursor.{most_puts};
-ghost use Rattle.call_steps.specs.Queue.{IsFresh, IsSeatOf};
+ghost use Rattle.queue_bench.specs.Taker.{FirstTakes};
 ghost use denote.Param.Send.{IsSync};
 
 use crate::pairs::entry_of;
 use crossbeam_utils::Backoff;
 use rail::{Put, Rail, Take};
-use retry_rail::{RetryRail, RetrySeat};
 use std::sync::Wait;
 use std::sync::atomic::{AtomicU64, Ordering};
 use std::thread;
 use std::thread::Threads;
 
-/// Puts `each` entries by each seat but the last and takes them all by the last, each seat in a thread of its own, and answers how many came whole.
-pub fn pass<R: Threads + Wait + Sync>(
+/// Puts `each` entries by each seat but the first and takes them all by the first, each seat in a
+/// thread of its own, and answers how many came whole.
+pub fn pass<R: Threads + Wait + Sync, Q: Rail>(
     rt: &R,
-    queue: &RetryRail,
-    seats: &mut [RetrySeat],
+    queue: &Q,
+    seats: &mut [Q::Seat],
     each: u64,
 ) -> u64
-    requires fresh { All (IsFresh queue.now) seats.old }
-    requires width { queue.now.shape.width ≡ 6 }
+    requires puts { All (Q.PutsInto queue.now) seats.old }
+    requires takes { FirstTakes (Q.TakesFrom queue.now) seats.old }
+    requires fresh { All (λ seat. Q.made seat ≡ []) seats.old }
+    requires width { (Q.shape_of queue.now).width ≡ 6 }
     requires each { each ≤ 1000000 }
 {
     let Some(producers) = seats.len().checked_sub(1) else {
@@ -35,21 +37,24 @@ pub fn pass<R: Threads + Wait + Sync>(
         rt,
         seats,
         producers + 1,
-        &|index, seat: &mut RetrySeat|
-            requires { IsSync R.row × IsFresh queue.now seat.now × (queue.now.shape.width ≡ 6) × (each ≤ 1000000) }
+        &|index, seat: &mut Q::Seat|
+            requires { IsSync R.row × Q.PutsInto queue.now seat.now
+                × (index ≡ 0 → Q.TakesFrom queue.now seat.now) × (Q.made seat.now ≡ [])
+                × ((Q.shape_of queue.now).width ≡ 6) × (each ≤ 1000000) }
         {
-            if index < producers {
+            if index == 0 {
+                whole.store(take_all(rt, queue, seat, count), Ordering::SeqCst);
+            } else {
                 let _most = queue.shape().most_puts();
                 put_all(rt, queue, seat, each);
-            } else {
-                whole.store(take_all(rt, queue, seat, count), Ordering::SeqCst);
             }
         },
     );
     kept.into_inner()
 }
 
-/// Puts `each` entries by each seat, each seat in a thread of its own, and answers how many were accepted.
+/// Puts `each` entries by each seat, each seat in a thread of its own, and answers how many were
+/// accepted.
 pub fn put_by_all<R: Threads + Wait + Sync, Q: Rail>(
     rt: &R,
     queue: &Q,
@@ -77,6 +82,11 @@ pub fn put_by_all<R: Threads + Wait + Sync, Q: Rail>(
             put_all(rt, queue, seat, each);
         },
     );
+    accepted_by::<Q>(seats)
+}
+
+/// How many entries of these seats were accepted.
+pub fn accepted_by<Q: Rail>(seats: &[Q::Seat]) -> u64 {
     let mut accepted = 0u64;
     for seat in seats {
         accepted = accepted.wrapping_add(Q::puts(seat));
@@ -84,7 +94,8 @@ pub fn put_by_all<R: Threads + Wait + Sync, Q: Rail>(
     accepted
 }
 
-fn put_all<Q: Rail>(rt: &impl Wait, queue: &Q, seat: &mut Q::Seat, times: u64)
+/// Puts so many entries, each until it is accepted.
+pub fn put_all<Q: Rail>(rt: &impl Wait, queue: &Q, seat: &mut Q::Seat, times: u64)
     requires seat { Q.PutsInto queue.now seat.old }
     requires width { (Q.shape_of queue.now).width ≡ 6 }
     requires room { length (Q.made seat.old) + times ≤ most_puts (Q.shape_of queue.now) }
@@ -116,9 +127,9 @@ fn put_one<Q: Rail>(rt: &impl Wait, queue: &Q, seat: &mut Q::Seat, turn: u64)
     }
 }
 
-fn take_all(rt: &impl Wait, queue: &RetryRail, seat: &mut RetrySeat, times: u64) -> u64
-    requires seat { IsSeatOf queue.now seat.old }
-    requires width { queue.now.shape.width ≡ 6 }
+fn take_all<Q: Rail>(rt: &impl Wait, queue: &Q, seat: &mut Q::Seat, times: u64) -> u64
+    requires seat { Q.TakesFrom queue.now seat.old }
+    requires width { (Q.shape_of queue.now).width ≡ 6 }
 {
     let mut kept = 0u64;
     for _ in 0..times {
@@ -128,10 +139,10 @@ fn take_all(rt: &impl Wait, queue: &RetryRail, seat: &mut RetrySeat, times: u64)
 }
 
 // Tries until an entry comes, and answers whether it is whole.
-fn take_one(rt: &impl Wait, queue: &RetryRail, seat: &mut RetrySeat) -> bool
-    requires seat { IsSeatOf queue.now seat.old }
-    requires width { queue.now.shape.width ≡ 6 }
-    ensures { IsSeatOf queue.now seat.new }
+fn take_one<Q: Rail>(rt: &impl Wait, queue: &Q, seat: &mut Q::Seat) -> bool
+    requires seat { Q.TakesFrom queue.now seat.old }
+    requires width { (Q.shape_of queue.now).width ≡ 6 }
+    ensures { Q.TakesFrom queue.now seat.new }
 {
     let mut out = [0; 6];
     let backoff = Backoff::new();

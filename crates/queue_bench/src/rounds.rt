@@ -2,6 +2,7 @@
 ghost use Rattle.std.specs.Prelude.{◌≡◌, ◌<◌, ◌≤◌, IfOk};
 
 use crate::kit::{kit_overwrite_pass, kit_overwrites, kit_pairs, kit_pass};
+use crate::looks::{Looked, put_beside_looker};
 use crate::pairs::{pairs, puts};
 use crate::passes::{pass, put_by_all};
 use anyhow::anyhow;
@@ -9,13 +10,15 @@ use crossbeam_queue::ArrayQueue;
 use cursor_word::Shape;
 use drop_rail::DropRail;
 use retry_rail::RetryRail;
+use sole_rail::{Consuming, SoleRail};
 use solo_rail::{SoloDrop, SoloRetry};
 use std::alloc::Global;
 use std::sync::Wait;
 use std::thread::Threads;
 use std::time::{Clock, Instant};
 
-/// How often, and how many entries in a round: puts and takes by one thread, and entries of each producer.
+/// How often, and how many entries in a round: puts and takes by one thread, and entries of each
+/// producer.
 #[derive(Clone, Copy)]
 pub struct Work {
     pub blocks: u64,
@@ -26,33 +29,40 @@ pub struct Work {
     ghost few: { (pairs ≤ 1000000) × (each ≤ 1000000) },
 }
 
-/// The least nanoseconds of a round of each queue, and how many entries came whole in all rounds.
+/// The least nanoseconds of a round of each queue, how many entries came whole in all rounds, and
+/// how many a looker saw whole.
 #[derive(Clone, Copy)]
 pub struct Costs {
     pub kit: u128,
     pub solo: u128,
     pub retry: u128,
+    pub sole: u128,
     pub drop: u128,
+    pub looked: u128,
     pub kept: u64,
+    pub seen: u64,
 }
 
 impl Costs {
-    fn none() -> Costs {
+    pub fn none() -> Costs {
         Costs {
             kit: u128::MAX,
             solo: u128::MAX,
             retry: u128::MAX,
+            sole: u128::MAX,
             drop: u128::MAX,
+            looked: u128::MAX,
             kept: 0,
+            seen: 0,
         }
     }
 
-    fn add(&mut self, kept: u64) {
+    pub fn add(&mut self, kept: u64) {
         self.kept = self.kept.wrapping_add(kept);
     }
 }
 
-fn shape_of(blocks: u64, seats: u64) -> Result<Shape, anyhow::Error>
+pub fn shape_of(blocks: u64, seats: u64) -> Result<Shape, anyhow::Error>
     ensures { IfOk result (λ shape. (shape.width ≡ 6) × (shape.seats ≡ seats)) }
 {
     Shape::new(blocks, 64, 6, seats).map_err(|_| anyhow!("no shape"))
@@ -75,6 +85,9 @@ pub fn pair_costs<R: Clock + Wait>(
         let (kept, cost) = retry_pair_round(rt, alloc, work)?;
         least.add(kept);
         least.retry = least.retry.min(cost);
+        let (kept, cost) = sole_pair_round(rt, alloc, work)?;
+        least.add(kept);
+        least.sole = least.sole.min(cost);
     }
     Ok(least)
 }
@@ -119,6 +132,25 @@ fn retry_pair_round<R: Clock>(
     Ok((kept, start.elapsed(rt)?.as_nanos()))
 }
 
+fn sole_pair_round<R: Clock>(
+    rt: &R,
+    alloc: Global,
+    work: &Work,
+) -> Result<(u64, u128), anyhow::Error> {
+    let shape = shape_of(work.blocks, 1)?;
+    let _most = shape.most_puts();
+    let (rail, mut seats) = SoleRail::make(alloc, shape)?;
+    let Some(mut seat) = seats.pop() else {
+        return Ok((0, 0));
+    };
+    if !seat.takes() {
+        return Ok((0, 0));
+    }
+    let start = Instant::now(rt)?;
+    let kept = pairs(&rail, &mut seat, work.pairs);
+    Ok((kept, start.elapsed(rt)?.as_nanos()))
+}
+
 /// Entries from so many producers to one taker.
 pub fn pass_costs<R: Clock + Threads + Wait + Sync>(
     rt: &R,
@@ -136,6 +168,9 @@ pub fn pass_costs<R: Clock + Threads + Wait + Sync>(
         let (kept, cost) = retry_pass_round(rt, alloc, work, producers)?;
         least.add(kept);
         least.retry = least.retry.min(cost);
+        let (kept, cost) = sole_pass_round(rt, alloc, work, producers)?;
+        least.add(kept);
+        least.sole = least.sole.min(cost);
     }
     Ok(least)
 }
@@ -164,6 +199,21 @@ fn retry_pass_round<R: Clock + Threads + Wait + Sync>(
 {
     let shape = shape_of(work.blocks, producers + 1)?;
     let (rail, mut seats) = RetryRail::make(alloc, shape)?;
+    let start = Instant::now(rt)?;
+    let kept = pass(rt, &rail, seats.as_mut_slice(), work.each);
+    Ok((kept, start.elapsed(rt)?.as_nanos()))
+}
+
+fn sole_pass_round<R: Clock + Threads + Wait + Sync>(
+    rt: &R,
+    alloc: Global,
+    work: &Work,
+    producers: u64,
+) -> Result<(u64, u128), anyhow::Error>
+    requires { producers ≤ 255 }
+{
+    let shape = shape_of(work.blocks, producers + 1)?;
+    let (rail, mut seats) = SoleRail::make(alloc, shape)?;
     let start = Instant::now(rt)?;
     let kept = pass(rt, &rail, seats.as_mut_slice(), work.each);
     Ok((kept, start.elapsed(rt)?.as_nanos()))
@@ -247,6 +297,10 @@ pub fn overwrite_pass_costs<R: Clock + Threads + Wait + Sync>(
         let (kept, cost) = drop_overwrite_pass_round(rt, alloc, work, producers)?;
         least.add(kept);
         least.drop = least.drop.min(cost);
+        let (looked, cost) = looked_overwrite_pass_round(rt, alloc, work, producers)?;
+        least.add(looked.accepted);
+        least.seen = least.seen.wrapping_add(looked.seen);
+        least.looked = least.looked.min(cost);
     }
     Ok(least)
 }
@@ -276,4 +330,19 @@ fn drop_overwrite_pass_round<R: Clock + Threads + Wait + Sync>(
     let start = Instant::now(rt)?;
     let kept = put_by_all(rt, &rail, seats.as_mut_slice(), work.each);
     Ok((kept, start.elapsed(rt)?.as_nanos()))
+}
+
+fn looked_overwrite_pass_round<R: Clock + Threads + Wait + Sync>(
+    rt: &R,
+    alloc: Global,
+    work: &Work,
+    producers: u64,
+) -> Result<(Looked, u128), anyhow::Error>
+    requires { producers ≤ 255 }
+{
+    let shape = shape_of(work.blocks, producers + 1)?;
+    let (rail, mut seats) = DropRail::make(alloc, shape)?;
+    let start = Instant::now(rt)?;
+    let looked = put_beside_looker(rt, &rail, seats.as_mut_slice(), work.each);
+    Ok((looked, start.elapsed(rt)?.as_nanos()))
 }

@@ -1,4 +1,5 @@
-//! Worked examples of the queues that run and of the shared words under them, as tests of what no clause says.
+//! Worked examples of the queues that run and of the shared words under them, as tests of what no
+//! clause says.
 #![tactic(auto)]
 
 #[cfg(test)]
@@ -23,6 +24,8 @@ mod newcomer;
 #[cfg(test)]
 mod one_seat;
 mod passage;
+#[cfg(test)]
+mod races;
 #[cfg(test)]
 mod sharing;
 #[cfg(test)]

@@ -73,7 +73,8 @@ fn without_cursor(answer: Answer) -> Answer {
     }
 }
 
-// Three puts and two takes again and again, until the queue was full, then two puts and three takes, until it was empty.
+// Three puts and two takes again and again, until the queue was full, then two puts and three takes,
+// until it was empty.
 fn is_put(step: u64) -> bool {
     step % 5 + step / 60 < 3
 }

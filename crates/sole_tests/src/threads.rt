@@ -1,11 +1,12 @@
-//! The queue over shared words: by hand, and by three producers and the consumer, each in a thread
-//! of its own.
+//! The queue over shared words: by hand, and by three producers, each in a thread of its own, and
+//! the consumer in the thread that began them.
 ghost use Rattle.std.specs.Prelude.{◌≡◌, ℕ, ◌<◌, IsPermutation, length, map, slice_index_or};
 ghost use Rattle.std.specs.List.{All};
 ghost use Rattle.call_steps.specs.Queue.{IsSeatOf, Seated};
 ghost use Rattle.rail.specs.Outcome.{numbers_below};
 ghost use Rattle.sole_core.specs.declared.phase.SolePhase.{SolePhase};
 ghost use Rattle.sole_rail.specs.Consumer.{IsConsumerOf};
+ghost use denote.Param.Send.{IsSync};
 
 use crate::bench::{cursor, empty, put_ok, take_ok};
 use cursor_word::Shape;
@@ -18,13 +19,21 @@ use std::test::Fail;
 use std::thread;
 use std::thread::Threads;
 
-const TRIES: u64 = 20000;
+const PRODUCERS: usize = 3;
 
-// The number that the next entry of each seat is to have, and how many entries came otherwise.
+// Each producer puts so many entries.
+const ENTRIES: u64 = 2000;
+
+// A seat calls so often at most.
+const MOST_TURNS: u64 = 10_000_000;
+
+// The number that the next entry of each seat is to have, how many entries came otherwise, and how
+// many producers have ended.
 #[derive(Drop)]
 struct Order {
     next: Vec<AtomicU64>,
     wrong: AtomicU64,
+    ended: AtomicU64,
 }
 
 impl Order {
@@ -36,6 +45,7 @@ impl Order {
         Ok(Order {
             next,
             wrong: AtomicU64::new(0),
+            ended: AtomicU64::new(0),
         })
     }
 
@@ -60,6 +70,7 @@ impl Order {
     }
 }
 
+// Puts its entries, each until it is accepted.
 fn put_often(queue: &SoleRail, seat: &mut SoleSeat)
     requires seat { IsSeatOf queue.now seat.old }
     requires width { queue.now.shape.width ≡ 2 }
@@ -67,41 +78,38 @@ fn put_often(queue: &SoleRail, seat: &mut SoleSeat)
     ensures number { seat.new.number ≡ seat.old.number }
 {
     let number = seat.number();
-    for _turn in 0..TRIES {
+    let _most = queue.shape().most_puts();
+    for _turn in 0..MOST_TURNS {
         let count = seat.puts();
-        if count < queue.shape().most_puts() {
-            let _answer = queue.put(seat, &[number, count]);
+        if count >= ENTRIES {
+            return;
+        }
+        match queue.put(seat, &[number, count]) {
+            Put::Ok(_) => {}
+            _ => thread::yield_now(),
         }
     }
 }
 
+// Takes until all producers have ended.
 fn take_often(queue: &SoleRail, seat: &mut SoleSeat, order: &Order)
     requires seat { IsConsumerOf queue.now seat.old }
     requires width { queue.now.shape.width ≡ 2 }
     ensures seat { IsConsumerOf queue.now seat.new }
 {
-    for _turn in 0..TRIES {
+    for _turn in 0..MOST_TURNS {
+        if order.ended.load(Ordering::SeqCst) >= PRODUCERS as u64 {
+            return;
+        }
         let mut words = [0; 2];
-        if let Take::Ok(_) = queue.take(seat, words.as_mut_slice()) {
-            order.note(words.as_slice());
+        match queue.take(seat, words.as_mut_slice()) {
+            Take::Ok(_) => order.note(words.as_slice()),
+            _ => thread::yield_now(),
         }
     }
 }
 
-fn do_often(queue: &SoleRail, seat: &mut SoleSeat, order: &Order)
-    requires seat { IsSeatOf queue.now seat.old }
-    requires width { queue.now.shape.width ≡ 2 }
-    ensures seat { IsSeatOf queue.now seat.new }
-    ensures number { seat.new.number ≡ seat.old.number }
-{
-    if seat.takes() {
-        take_often(queue, seat, order);
-    } else {
-        put_often(queue, seat);
-    }
-}
-
-fn run_each<R: Threads + Sync>(rt: &R, queue: &SoleRail, seats: &mut [SoleSeat], order: &Order)
+fn put_by_each<R: Threads + Sync>(rt: &R, queue: &SoleRail, seats: &mut [SoleSeat], order: &Order)
     requires seats { All (IsSeatOf queue.now) seats.old }
     requires width { queue.now.shape.width ≡ 2 }
     ensures seats { All (IsSeatOf queue.now) seats.new }
@@ -113,25 +121,74 @@ fn run_each<R: Threads + Sync>(rt: &R, queue: &SoleRail, seats: &mut [SoleSeat],
     thread::for_each_mut(
         rt,
         seats,
-        4,
+        PRODUCERS,
         &|_index, seat: &mut SoleSeat|
             requires { IsSeatOf queue.now seat.now × (queue.now.shape.width ≡ 2) }
             ensures { IsSeatOf queue.entry.now seat.exit.now
                 × (seat.exit.now.number ≡ seat.entry.now.number) }
-        { do_often(queue, seat, order) },
+        {
+            put_often(queue, seat);
+            order.ended.fetch_add(1, Ordering::SeqCst);
+        },
     );
 }
 
+fn put_by_all<R: Threads + Sync>(rt: &R, queue: &SoleRail, seats: &mut [SoleSeat], order: &Order)
+    requires seats { All (IsSeatOf queue.now) seats.old }
+    requires width { queue.now.shape.width ≡ 2 }
+    ensures seats { All (IsSeatOf queue.now) seats.new }
+    ensures numbers { map (λ s. s.number) seats.new ≡ map (λ s. s.number) seats.old }
+{
+    put_by_each(rt, queue, seats, order);
+}
+
+// All but one seat put, each in a thread of its own, and this thread takes with that one.
+fn run_beside<R: Threads + Sync>(
+    rt: &R,
+    queue: &SoleRail,
+    consumer: &mut SoleSeat,
+    producers: &mut [SoleSeat],
+    order: &Order,
+)
+    requires consumer { IsConsumerOf queue.now consumer.old }
+    requires producers { All (IsSeatOf queue.now) producers.old }
+    requires width { queue.now.shape.width ≡ 2 }
+    ensures consumer { IsConsumerOf queue.now consumer.new }
+    ensures producers { All (IsSeatOf queue.now) producers.new }
+    ensures numbers { map (λ s. s.number) producers.new ≡ map (λ s. s.number) producers.old }
+{
+    // the second closure is called in this thread
+    thread::join_mut(
+        rt,
+        &mut ||
+            requires { IsSync R.row × All (IsSeatOf queue.now) producers.now
+                × (queue.now.shape.width ≡ 2) }
+            ensures { All (IsSeatOf queue.entry.now) producers.exit.now
+                × (map (λ (s : Seated SolePhase). s.number) producers.exit.now
+                ≡ map (λ (s : Seated SolePhase). s.number) producers.entry.now) }
+        { put_by_all(rt, queue, producers, order) },
+        &mut ||
+            requires { IsConsumerOf queue.now consumer.now × (queue.now.shape.width ≡ 2) }
+            ensures { IsConsumerOf queue.entry.now consumer.exit.now }
+        { take_often(queue, consumer, order) },
+    );
+}
+
+// The first seat takes, and the others put.
 fn run_all<R: Threads + Sync>(rt: &R, queue: &SoleRail, seats: &mut [SoleSeat], order: &Order)
     requires seats { All (IsSeatOf queue.now) seats.old }
     requires width { queue.now.shape.width ≡ 2 }
     ensures seats { All (IsSeatOf queue.now) seats.new }
     ensures numbers { map (λ s. s.number) seats.new ≡ map (λ s. s.number) seats.old }
 {
-    run_each(rt, queue, seats, order);
+    if let Some((consumer, producers)) = seats.split_first_mut() {
+        if consumer.takes() {
+            run_beside(rt, queue, consumer, producers, order);
+        }
+    }
 }
 
-// The threads run, and the queue is closed: each accepted entry came once, in its seat's order.
+// The threads run, and the queue is closed: each entry came once, in its producer's order.
 fn passes<R: Threads + Sync>(rt: &R, alloc: Global, shape: Shape) -> Result<bool, AllocError>
     requires width { shape.width ≡ 2 }
 {
@@ -145,13 +202,14 @@ fn passes<R: Threads + Sync>(rt: &R, alloc: Global, shape: Shape) -> Result<bool
         order.note(item.words.words());
     }
     let wrong = order.wrong.load(Ordering::SeqCst);
-    Ok(wrong == 0 && order.count() == SoleRail::accepted(&done))
+    let all = ENTRIES * PRODUCERS as u64;
+    Ok(wrong == 0 && order.count() == all && SoleRail::accepted(&done) == all)
 }
 
 #[test]
 fn threads_lose_nothing_and_keep_the_order(rt: HostRuntime) -> Result<(), Fail> {
     for (blocks, size) in [(2, 4), (3, 1)] {
-        let shape = Shape::new(blocks, size, 2, 4)?;
+        let shape = Shape::new(blocks, size, 2, PRODUCERS as u64 + 1)?;
         assert!(rt; passes(&rt, rt.alloc(), shape)?);
     }
     Ok(())

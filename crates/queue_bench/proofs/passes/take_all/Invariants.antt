@@ -1,5 +1,4 @@
-use Rattle.call_steps.specs.Queue.{IsSeatOf}
 use Rattle.queue_bench.proofs.passes.take_all.Given as goal
 
 abbrev pub invariant-loop : goal.invariant-loop
-invariant-loop g l = IsSeatOf l.queue l.seat
+invariant-loop g l = g.Q.Rail.TakesFrom l.queue l.seat
