@@ -1,5 +1,5 @@
 //! A run whose two workers put while the calling thread takes, by a queue that tells of its calls.
-ghost use Rattle.std.specs.Prelude.{◌≡◌, IfErr, IfOk, IsPermutation, false, true, flat_map, map};
+ghost use Rattle.std.specs.Prelude.{◌≡◌, IfErr, IfOk, IsPermutation, false, refl, true, flat_map, map};
 ghost use Rattle.std.specs.List.{All};
 ghost use Rattle.std.proofs.Common.{inr};
 ghost use Rattle.std.proofs.lemmas.Bool.{leb-true};
@@ -18,6 +18,7 @@ use rail::{Batch, Put, Rail, Refused, Take};
 use retry_rail::{RetryDone, RetryRail, RetrySeat};
 use std::alloc::{AllocError, Global};
 use std::marker::Model;
+use std::sync::Arc;
 use std::sync::atomic::{AtomicBool, AtomicU64, Ordering};
 use std::test::Fail;
 use word_workers::NoGate;
@@ -72,12 +73,12 @@ impl Meeting {
 
 /// A queue whose seats meet. Contracts see the queue alone.
 #[derive(Drop)]
-struct MeetingRail<'a> {
+struct MeetingRail {
     queue: RetryRail,
-    meeting: &'a Meeting,
+    meeting: Arc<Meeting>,
 }
 
-impl<'a> Model for MeetingRail<'a> {
+impl Model for MeetingRail {
     ghost use Rattle.call_steps.specs.Queue.{Queue};
 
     ghost Value = { Queue };
@@ -85,7 +86,7 @@ impl<'a> Model for MeetingRail<'a> {
     ghost view = { λ r. r.queue };
 }
 
-impl<'a> Rail for MeetingRail<'a> {
+impl Rail for MeetingRail {
     ghost use Rattle.std.specs.Prelude.{◌≡◌, false};
     ghost use Rattle.cursor_word.specs.Shape.{most_seats};
     ghost use Rattle.call_steps.specs.Queue.{IsSeatOf, told_of};
@@ -189,12 +190,12 @@ impl<'a> Rail for MeetingRail<'a> {
 
 /// Queues for many threads, of which the seats of one kind meet.
 #[derive(Drop)]
-struct MeetingRails<'a> {
-    meeting: &'a Meeting,
+struct MeetingRails {
+    meeting: Arc<Meeting>,
 }
 
-impl<'a> Rails for MeetingRails<'a> {
-    type Retry = MeetingRail<'a>;
+impl Rails for MeetingRails {
+    type Retry = MeetingRail;
 
     type DropOld = DropRail;
 
@@ -210,9 +211,9 @@ impl<'a> Rails for MeetingRails<'a> {
         &self,
         alloc: Global,
         shape: Shape,
-    ) -> Result<(MeetingRail<'a>, Vec<RetrySeat>), AllocError> {
+    ) -> Result<(MeetingRail, Vec<RetrySeat>), AllocError> {
         let (queue, seats) = RetryRail::make(alloc, shape)?;
-        let meeting = self.meeting;
+        let meeting = Arc::try_clone(&self.meeting)?;
         Ok((MeetingRail { queue, meeting }, seats))
     }
 
@@ -228,11 +229,12 @@ impl<'a> Rails for MeetingRails<'a> {
 #[test]
 fn two_workers_put_while_the_caller_takes(rt: HostRuntime) -> Result<(), Fail> {
     let alloc = rt.alloc();
-    let meeting = Meeting {
+    let begun = Meeting {
         put: [AtomicBool::new(false), AtomicBool::new(false)],
         take: AtomicBool::new(false),
         met: AtomicU64::new(0),
     };
+    let meeting = Arc::new(alloc, begun)?;
     let case = Case {
         words: &["--workers", "2", "ab.txt"],
         bytes: b"a b a\n",
@@ -242,7 +244,9 @@ fn two_workers_put_while_the_caller_takes(rt: HostRuntime) -> Result<(), Fail> {
     };
     let held = Vec::from_slice(alloc, case.bytes)?;
     let clock = MemClock { next: 0, step: 1 };
-    let rails = MeetingRails { meeting: &meeting };
+    let rails = MeetingRails {
+        meeting: Arc::try_clone(&meeting)?,
+    };
     let left = tried_over(
         &rt,
         alloc,
