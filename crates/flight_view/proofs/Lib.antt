@@ -2,3 +2,14 @@ pub mod Gathered
 pub mod Entries
 pub mod Blocks
 pub mod Walked
+pub mod Later
+pub mod Loaded
+pub mod Reuse
+pub mod LookSteps
+pub mod Orders
+pub mod Viewed
+pub mod Reached
+pub mod Spots
+pub mod Follows
+pub mod Viewers
+pub mod States

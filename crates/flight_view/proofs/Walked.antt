@@ -34,7 +34,7 @@ range_more a n =
     ∙ sym (map-range_with_len_more (λ (k : ℕ). k) a n (a + n) refl) ∙ map-id (range_with_len a (n + 1))
 
 -- a block more in order
-order_on : (first : ℕ) (blocks : List BlockLook) (b : BlockLook) → map (λ x. x.block) blocks ≡ range_with_len first (length blocks) → b.block ≡ first + length blocks
+pub order_on : (first : ℕ) (blocks : List BlockLook) (b : BlockLook) → map (λ x. x.block) blocks ≡ range_with_len first (length blocks) → b.block ≡ first + length blocks
     → map (λ x. x.block) (blocks ++ b ∷ []) ≡ range_with_len first (length (blocks ++ b ∷ []))
 order_on first blocks b order at =
     map_push (λ (x : BlockLook). x.block) blocks b

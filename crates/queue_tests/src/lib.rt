@@ -7,3 +7,5 @@ mod cursors;
 mod drop_schedules;
 #[cfg(test)]
 mod schedules;
+#[cfg(test)]
+mod views;
