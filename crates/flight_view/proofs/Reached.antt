@@ -1,13 +1,16 @@
 -- What holds of each seat's views at each moment of a schedule.
-use Rattle.std.proofs.Common.{◌≡◌, ℕ, suc, ◌+◌, ◌<◌, ◌≤◌, List, [], ◌∷◌, ◌++◌, length, length-append, take, refl, sym, ap, ◌∙◌, subst, ⊎_elim, arith}
+use Rattle.std.proofs.Common.{◌≡◌, ℕ, suc, ◌+◌, ◌-◌, ◌*◌, ◌<◌, ◌≤◌, List, [], ◌∷◌, ◌++◌, length, length-append, take, refl, sym, ap, ◌∙◌, subst, ⊎_elim, arith}
 use Rattle.std.specs.Prelude.{All, Contains, Option, Some, None, slice_get, slice_index}
 use Rattle.std.specs.List.{AllByRecursion}
 use Rattle.std.proofs.lemmas.List.{length-replicate, length-set, take_all}
+use Rattle.std.proofs.lemmas.Bool.{cases_lt}
 use Rattle.std.proofs.lemmas.List.Elements.{Contains-append_cases}
+use Rattle.std.proofs.Math.Nat.{mul-le-mul_right}
 use Rattle.std.proofs.lemmas.Option.{slice_get-get_or}
 use Rattle.cursor_word.specs.Shape.{Grid, IsWithinLimits}
-use Rattle.cursor_word.specs.Cursor.{most_puts}
+use Rattle.cursor_word.specs.Cursor.{cursor_of, most_puts}
 use Rattle.cursor_word.specs.declared.cursor.Cursor.{Cursor}
+use Rattle.cursor_word.proofs.Places.{offset_of_place, place_of_cursor}
 use Rattle.rail.specs.declared.entry.Placed.{Placed}
 use Rattle.rail.specs.Items.{IsRising, places}
 use Rattle.step_log.specs.declared.log.Step.{Step}
@@ -29,9 +32,9 @@ use Rattle.flight_view.specs.declared.schedule.ViewEvent.{ViewEvent}
 use Rattle.flight_view.specs.declared.schedule.ViewEvent.TheVariants as event
 use Rattle.flight_view.specs.declared.walking.View.{View}
 use Rattle.flight_view.specs.Walks.{walk_items}
-use Rattle.flight_view.specs.Views.{IsCaused, IsShown, gap_blocks}
+use Rattle.flight_view.specs.Views.{IsCaused, IsShown, ShowsFrom, gap_blocks}
 use Rattle.flight_view.specs.Schedules.{AreShown, HasLoaded, HasStepped, HasViewed, Leads, Moment, RunsTo, SuitsView, Viewer, Views, no_view, start_moment}
-use Rattle.flight_view.specs.Promised.{IsAccepted, IsReusedGap, ShowsThen}
+use Rattle.flight_view.specs.Promised.{IsAccepted, IsReusedGap, ShowsNewest, ShowsThen}
 use Rattle.flight_view.specs.Viewers.{IsGood}
 use Rattle.flight_view.proofs.Later.{IsLater, turn_later}
 use Rattle.flight_view.proofs.Loaded.{DidSince, since_more, since_until}
@@ -117,6 +120,32 @@ module _ (g : Grid) where
           all = run_all (start_state DropPhase g) (take n q.events) ∙ length-replicate g.seats (resting DropPhase g);
         }
 
+    -- an item among the last places lies in one of the newest blocks
+    last_places : (at : MachineState) (good : IsGood g at) (place : ℕ) → good.sound.front.next ≤ place + (g.blocks - 1) * g.size → good.sound.front.last + 1 - g.blocks ≤ (cursor_of g place).block
+    last_places at good place late =
+        let block : ℕ = (cursor_of g place).block in
+        let last : ℕ = good.sound.front.last in
+        let x : ℕ = block - g.blocks in let y : ℕ = g.blocks - 1 in
+        ⊎_elim
+        (λ far. absurd (
+        let here = place_of_cursor g place in
+        let short = offset_of_place g place limits in
+        let split : (x + 1) * g.size + y * g.size ≡ (x + 1 + y) * g.size = omega arith in
+        let sum : (x + 1 + y) * g.size ≡ block * g.size = ap (λ (n : ℕ). n * g.size) (omega (arith, limits.blocks_from)) in
+        let under : block * g.size ≤ (last - g.blocks) * g.size = mul-le-mul_right g.size (omega arith) in
+        let from : (last - g.blocks) * g.size ≤ good.sound.front.next = ⊎_elim (λ q. omega (arith, q.at)) (λ q. omega (arith, q.at)) good.sound.at.puts.places.words.newest in omega arith))
+        (λ near. omega arith)
+        (cases_lt (block + g.blocks) (last + 1))
+
+    shows_then : (view : View) (at : MachineState) (good : IsGood g at) → ShowsFrom g (good.sound.front.last + 1 - g.blocks) (all_made at.views) view.items.items view.gaps → ShowsNewest g at view
+    shows_then view at good shows = record {
+      last = good.sound.front.last;
+      is_last = last_opened g limits at good;
+      shows = shows;
+      allocated = record { count = good.sound.front.next; once = good.sound.at.puts.places.counts.once };
+      shows_last = λ item h late. shows item h (last_places at good item.place late);
+    }
+
     -- a view that has just ended
     ended_is : (loads : List Step) (then : Option MachineState) (w : MachineState) (view : View) → (a : AreShown g loads view) → WalkViewed g limits law then a.walk w → IsView w view × ShowsThen g then view
     ended_is loads then w view a v =
@@ -131,16 +160,12 @@ module _ (g : Grid) where
             causes = subst (All IsCaused) (sym a.gaps) first.caused;
             reused = subst (All (IsReusedGap g w)) (sym a.gaps) first.reused;
           },
-          subst (λ (o : Option MachineState). ShowsThen g o view) (sym v.is) record {
-            last = good.sound.front.last;
-            is_last = last_opened g limits v.at good;
-            shows = λ item h from.
-                let m = made_by v.at.views item h in
-                let to = allocated_to g limits v.at good v.saw.head in
-                let found = ap (λ (c : Cursor). c.block) v.saw.found in
-                let shown = (v.viewed m.seat m.view m.at).shown item m.made (omega arith) in
-                subst (λ l. IsShown g l view.gaps item) (sym a.items) (subst (λ l. IsShown g (walk_items g a.walk) l item) (sym a.gaps) shown);
-          },
+          subst (λ (o : Option MachineState). ShowsThen g o view) (sym v.is) (shows_then view v.at good (λ item h from.
+              let m = made_by v.at.views item h in
+              let to = allocated_to g limits v.at good v.saw.head in
+              let found = ap (λ (c : Cursor). c.block) v.saw.found in
+              let shown = (v.viewed m.seat m.view m.at).shown item m.made (omega arith) in
+              subst (λ l. IsShown g l view.gaps item) (sym a.items) (subst (λ l. IsShown g (walk_items g a.walk) l item) (sym a.gaps) shown))),
         )
 
     loaded_more : (w : MachineState) (old new : Viewer) → IsGood g w → HasLoaded g w old new → ViewerKnows old w → ViewerKnows new w

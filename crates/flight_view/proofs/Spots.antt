@@ -1,5 +1,5 @@
 -- A walk goes on load by load.
-use Rattle.std.proofs.Common.{◌≡◌, ℕ, zero, suc, ◌+◌, ◌/◌, ◌<◌, ◌≤◌, List, [], ◌∷◌, ◌++◌, append_assoc, length, length-append, refl, sym, ap, ◌∙◌, subst, inl, inr, ⊎_elim, arith}
+use Rattle.std.proofs.Common.{◌≡◌, ℕ, zero, suc, ◌+◌, ◌/◌, ◌<◌, ◌≤◌, List, [], ◌∷◌, ◌++◌, append_assoc, length, length-append, refl, sym, ap, ◌∙◌, subst, inr, ⊎_elim, arith}
 use Rattle.std.specs.Prelude.{All, Contains, flat_map, map, if◌then◌else◌}
 use Rattle.std.proofs.lemmas.List.{map_push}
 use Rattle.std.proofs.lemmas.List.Elements.{All-nil, All-push, All-take, Contains-push}
@@ -115,15 +115,6 @@ module _ (g : Grid) where
 
   pub so_far_walk : (end k : ℕ) (view : SoFar) (p : HavePassed g end k view) → IsWalk g p.walk
   so_far_walk end k view p = record { head = p.head; looks = p.looks; order = p.order; within = let f = p.at in let e = p.end_is in let w = p.within in omega arith; passed = All-take IsPassed _ p.walk.blocks p.passed }
-
-  -- a walk that has passed all its blocks
-  pub ends_passed : (end k : ℕ) (view : SoFar) → HavePassed g end k view → end ≤ k → IsWhole g view
-  ends_passed end k view p le = record {
-    walk = p.walk;
-    is = so_far_walk end k view p;
-    ended = inl (let f = p.at in let e = p.end_is in let w = p.within in omega arith, p.passed);
-    of = p.of;
-  }
 
   -- a walk after its look at the head
   pub passed_none : (head : ℕ) (a : ℕ) → 2 ≤ g.blocks → HavePassed g (end_block g (unpacked a)) (first_block g (unpacked a)) (so_far (loaded (look_want g Head) head ∷ loaded (look_want g (HeadA head)) a ∷ []) [] [])

@@ -1,16 +1,19 @@
 -- What a view shows of the queue, in each schedule.
-use Rattle.std.specs.Prelude.{◌≡◌, ℕ, ◌+◌, ◌-◌, ◌/◌, ◌<◌, ◌≤◌, ◌⊎◌, List, Option, Some, None, slice_get}
+use Rattle.std.specs.Prelude.{◌≡◌, ℕ, ◌+◌, ◌-◌, ◌*◌, ◌/◌, ◌<◌, ◌≤◌, ◌⊎◌, Contains, List, Option, Some, None, slice_get}
 use Rattle.std.specs.List.{All}
 use Rattle.cursor_word.specs.Shape.{Grid}
 use Rattle.cursor_word.specs.Cursor.{offset_span}
+use Rattle.rail.specs.declared.entry.Placed.{Placed}
 use Rattle.put_side.specs.Cursors.{committed_word}
 use Rattle.put_side.specs.Entries.{IsMade}
 use Rattle.put_side.specs.Gathered.{all_made}
+use Rattle.put_side.specs.Laws.{PlacesAreDense}
+use Rattle.drop_core.specs.Stage.{stage}
 use Rattle.drop_core.specs.Moments.{IsReused}
 use Rattle.drop_core.specs.Types.{MachineState}
 use Rattle.flight_view.specs.declared.gaps.Gap.{Gap}
 use Rattle.flight_view.specs.declared.walking.View.{View}
-use Rattle.flight_view.specs.Views.{ShowsFrom}
+use Rattle.flight_view.specs.Views.{IsShown, ShowsFrom}
 use Rattle.flight_view.specs.Schedules.{Moment, Viewer}
 
 -- each item of the view is accepted, with the words that it has there
@@ -28,6 +31,12 @@ pub record ShowsNewest (shape : Grid) (then : MachineState) (view : View) : Type
   pub is_last : IsLastOpened shape then.words last
   pub shows : ShowsFrom shape (last + 1 - shape.blocks) (all_made then.views) view.items.items
       view.gaps
+  -- so too what was accepted at the last places, as many as all blocks but one hold, of those that
+  -- were allocated then
+  pub allocated : PlacesAreDense stage shape then.views
+  pub shows_last : (item : Placed) → Contains (all_made then.views) item
+      → allocated.count ≤ item.place + (shape.blocks - 1) * shape.size
+      → IsShown shape view.items.items view.gaps item
 
 abbrev pub ShowsThen : Grid → Option MachineState → View → Type 0
 ShowsThen shape None view = ⊥

@@ -18,6 +18,19 @@ const Y_GOES_ON: ViewEvent = ViewEvent::Step(Event {
 
 const Y_VIEWS: ViewEvent = ViewEvent::View { seat: 1 };
 
+// Where one put of the first block is under way, behind one that ended.
+const STOPPED: Gap = Gap {
+    block: 2,
+    committed: Cursor {
+        block: 2,
+        offset: 1,
+    },
+    allocated: Cursor {
+        block: 2,
+        offset: 2,
+    },
+};
+
 // The places of a view's items with their first words, and its gaps.
 fn shows(rt: &impl Abort, view: &View, items: &[(u64, u64)], gaps: &[Gap]) {
     assert_eq!(rt; view.items.len(), items.len());
@@ -65,19 +78,8 @@ fn a_view_beside_a_put_that_stopped(rt: HostRuntime) -> Result<(), Fail> {
     ];
     let state = view_run(rt.alloc(), shape, &events)?;
     assert!(rt; state.view(0).is_none());
-    let gap = Gap {
-        block: 2,
-        committed: Cursor {
-            block: 2,
-            offset: 1,
-        },
-        allocated: Cursor {
-            block: 2,
-            offset: 2,
-        },
-    };
     match state.view(1) {
-        Some(view) => shows(&rt, view, &[], &[gap]),
+        Some(view) => shows(&rt, view, &[], &[STOPPED]),
         None => panic!(&rt; "the view hasn't ended"),
     }
     assert_eq!(rt; state.queue().made(1).len(), 1);
