@@ -2,7 +2,9 @@
 
    A seat is the right of one caller to put and take, and the only handle of a queue: the queue goes
    with its last seat. `zem_seat` is a seat of a queue that refuses entries when it is full, and
-   `zem_ring_seat` one of a queue that then drops its oldest block of entries.
+   `zem_ring_seat` one of a queue that then drops its oldest block of entries. A log refuses entries
+   when it is full, too: `zem_log_seat` is a seat of it that only puts, and `zem_log_consumer` the one
+   seat that takes.
 
    What the caller owes, which nothing checks:
    1. A seat begins as {0}, and is as a call left it. It is moved (by assignment, leaving {0} behind),
@@ -16,7 +18,9 @@
 
    Who may call what at the same time:
      a put or a take of one seat     puts and takes of all other seats
-     zem_make, zem_free              anything of other seats
+     a put of a log's seat           puts of its other seats, and takes of its consumer
+     a view or look of a ring's seat puts, takes, views and looks of all other seats
+     the making or giving up         anything of other seats
 
    The library is for x86-64 (x86-64-v2) and Linux. */
 #ifndef ZEMUSCHIDA_H
@@ -41,11 +45,12 @@ extern "C" {
 #define ZEM_CLOSED 16u     /* the seat is {0} */
 #define ZEM_WIDTH 17u      /* not as many words as the queue's entries have */
 #define ZEM_SPENT 18u      /* the seat had as many entries accepted as a seat may (at least 2^32) */
-#define ZEM_MEMORY 19u     /* zem_make: no memory */
-#define ZEM_BAD_BLOCKS 20u /* zem_make: 2 to 256 blocks */
-#define ZEM_BAD_SIZE 21u   /* zem_make: 1 to 65536 entries a block */
-#define ZEM_BAD_WIDTH 22u  /* zem_make: 1 to 8 words an entry */
-#define ZEM_BAD_SEATS 23u  /* zem_make: 1 to 1024 seats */
+#define ZEM_MEMORY 19u     /* no memory */
+#define ZEM_BAD_BLOCKS 20u /* a queue has 2 to 256 blocks */
+#define ZEM_BAD_SIZE 21u   /* a block has 1 to 65536 entries */
+#define ZEM_BAD_WIDTH 22u  /* an entry has 1 to 8 words */
+#define ZEM_BAD_SEATS 23u  /* a queue has 1 to 1024 seats; a log's consumer has one of them */
+#define ZEM_ROOM 24u       /* zem_ring_view: a view has more items, or more gaps, than there is room */
 
 /* Hold no two seats of different threads on one cache line. */
 typedef struct zem_seat {
@@ -58,6 +63,16 @@ typedef struct zem_ring_seat {
     void *at;
 } zem_ring_seat;
 
+typedef struct zem_log_seat {
+    bool full;
+    void *at;
+} zem_log_seat;
+
+typedef struct zem_log_consumer {
+    bool full;
+    void *at;
+} zem_log_consumer;
+
 typedef struct zem_cursor {
     uint64_t block, offset;
 } zem_cursor;
@@ -66,6 +81,23 @@ typedef struct zem_answer {
     uint64_t place, block;
     zem_cursor first, second;
 } zem_answer;
+
+/* An item of a view. The words that an entry doesn't have are 0. */
+typedef struct zem_item {
+    uint64_t place, words[8];
+} zem_item;
+
+/* A block of which a view may lack items, as calls were under way in it: the two cursors differ, or
+   are of another block. */
+typedef struct zem_gap {
+    uint64_t block;
+    zem_cursor committed, allocated;
+} zem_gap;
+
+/* How many items and gaps a view has. */
+typedef struct zem_view {
+    uint64_t items, gaps;
+} zem_view;
 
 /* Makes a queue with a seat for each of the n handles. A seat that a handle had is given up. */
 uint32_t zem_make(uint64_t blocks, uint64_t size, uint64_t width, zem_seat *seats, size_t n);
@@ -83,7 +115,23 @@ uint32_t zem_ring_make(uint64_t blocks, uint64_t size, uint64_t width, zem_ring_
 uint32_t zem_ring_put(zem_ring_seat *seat, const uint64_t *entry, size_t width,
                       zem_answer *answer);
 uint32_t zem_ring_take(zem_ring_seat *seat, uint64_t *out, size_t width, zem_answer *answer);
+/* Copies what the queue holds while it runs, and takes nothing: its items, in rising order of place,
+   and the blocks of which it may lack some. There are at most twice as many as the queue has room for.
+   It takes memory of its own. A refusal copies nothing, and leaves *view as it was. */
+uint32_t zem_ring_view(zem_ring_seat *seat, zem_item *items, size_t items_room, zem_gap *gaps,
+                       size_t gaps_room, zem_view *view);
+/* Looks how far the queue has come: the cursor that gives out entries to puts in its newest block. */
+uint32_t zem_ring_look_head(zem_ring_seat *seat, zem_cursor *newest);
 void zem_ring_free(zem_ring_seat *seat);
+
+/* The same for a log, which is made with its consumer and n seats that put. */
+uint32_t zem_log_make(uint64_t blocks, uint64_t size, uint64_t width, zem_log_consumer *consumer,
+                      zem_log_seat *seats, size_t n);
+uint32_t zem_log_put(zem_log_seat *seat, const uint64_t *entry, size_t width, zem_answer *answer);
+uint32_t zem_log_take(zem_log_consumer *consumer, uint64_t *out, size_t width, zem_answer *answer);
+void zem_log_free(zem_log_seat *seat);
+/* Gives up the consumer's seat, after which nobody takes. */
+void zem_log_consumer_free(zem_log_consumer *consumer);
 
 static inline const char *zem_text(uint32_t code) {
     switch (code) {
@@ -101,6 +149,7 @@ static inline const char *zem_text(uint32_t code) {
     case ZEM_BAD_SIZE: return "a block has 1 to 65536 entries";
     case ZEM_BAD_WIDTH: return "an entry has 1 to 8 words";
     case ZEM_BAD_SEATS: return "a queue has 1 to 1024 seats";
+    case ZEM_ROOM: return "a view has no room";
     default: return "no code of this library";
     }
 }

@@ -76,4 +76,68 @@ static int overwriting(void) {
     return 0;
 }
 
-int main(void) { return refusals() || refusing() || overwriting(); }
+static int viewing(void) {
+    zem_ring_seat seats[2] = {{0}};
+    uint64_t entry[2] = {0};
+    zem_answer answer;
+    zem_item items[8] = {{0}};
+    zem_gap gaps[5] = {{0}};
+    zem_view view = {7, 7};
+    zem_cursor newest = {7, 7};
+    WANT(zem_ring_view(&seats[0], items, 8, gaps, 5, &view) == ZEM_CLOSED);
+    WANT(zem_ring_look_head(&seats[0], &newest) == ZEM_CLOSED && newest.block == 7);
+    WANT(zem_ring_make(2, 2, 2, seats, 2) == ZEM_OK);
+    WANT(zem_ring_view(&seats[0], items, 0, gaps, 0, &view) == ZEM_OK && view.items == 0);
+    for (uint64_t i = 0; i < 100; i++) {
+        entry[0] = i, entry[1] = 2 * i;
+        WANT(zem_ring_put(&seats[i % 2], entry, 2, &answer) == ZEM_OK);
+    }
+    WANT(zem_ring_look_head(&seats[1], &newest) == ZEM_OK);
+    WANT(newest.block == 51 && newest.offset == 2);
+    view = (zem_view){7, 7};
+    WANT(zem_ring_view(&seats[1], items, 3, gaps, 5, &view) == ZEM_ROOM);
+    WANT(view.items == 7 && view.gaps == 7 && items[0].words[1] == 0);
+    items[4].place = 9;
+    WANT(zem_ring_view(&seats[1], items, 8, gaps, 5, &view) == ZEM_OK);
+    WANT(view.items == 4 && view.gaps == 0 && items[4].place == 9);
+    for (uint64_t i = 0; i < 4; i++) {
+        WANT(items[i].place == 96 + i && items[i].words[0] == 96 + i);
+        WANT(items[i].words[1] == 2 * (96 + i) && items[i].words[2] == 0);
+    }
+    WANT(zem_ring_take(&seats[0], entry, 2, &answer) == ZEM_OK && answer.place == 96);
+    WANT(zem_ring_view(&seats[0], items, 4, gaps, 0, &view) == ZEM_OK && view.items == 4);
+    zem_ring_free(&seats[0]), zem_ring_free(&seats[1]);
+    return 0;
+}
+
+static int logging(void) {
+    zem_log_consumer consumer = {0};
+    zem_log_seat seats[2] = {{0}};
+    uint64_t entry[1] = {9};
+    zem_answer answer;
+    WANT(zem_log_put(&seats[0], entry, 1, &answer) == ZEM_CLOSED);
+    WANT(zem_log_take(&consumer, entry, 1, &answer) == ZEM_CLOSED);
+    WANT(zem_log_make(2, 2, 0, &consumer, seats, 2) == ZEM_BAD_WIDTH && !consumer.full);
+    WANT(zem_log_make(2, 2, 1, &consumer, seats, 2) == ZEM_OK && consumer.full);
+    WANT(zem_log_put(&seats[0], entry, 2, &answer) == ZEM_WIDTH);
+    WANT(zem_log_take(&consumer, entry, 0, &answer) == ZEM_WIDTH && entry[0] == 9);
+    WANT(zem_log_take(&consumer, entry, 1, &answer) == ZEM_EMPTY && answer.place == 0);
+    for (uint64_t i = 0; i < 4; i++) {
+        entry[0] = 10 * i;
+        WANT(zem_log_put(&seats[i % 2], entry, 1, &answer) == ZEM_OK && answer.place == i);
+    }
+    WANT(zem_log_put(&seats[0], entry, 1, &answer) == ZEM_FULL && answer.block == 3);
+    zem_log_free(&seats[0]), zem_log_free(&seats[1]);
+    for (uint64_t i = 0; i < 4; i++) {
+        WANT(zem_log_take(&consumer, entry, 1, &answer) == ZEM_OK && answer.place == i);
+        WANT(entry[0] == 10 * i);
+    }
+    WANT(zem_log_take(&consumer, entry, 1, &answer) == ZEM_EMPTY && answer.place == 4);
+    zem_log_consumer_free(&consumer), zem_log_consumer_free(&consumer);
+    WANT(zem_log_make(2, 2, 1, &consumer, seats, 0) == ZEM_OK); /* a log that nobody fills */
+    WANT(zem_log_take(&consumer, entry, 1, &answer) == ZEM_EMPTY);
+    zem_log_consumer_free(&consumer);
+    return 0;
+}
+
+int main(void) { return refusals() || refusing() || overwriting() || viewing() || logging(); }

@@ -8,13 +8,12 @@ const LINES: u64 = 1000;
 fn main() -> Result<(), Box<dyn std::error::Error>> {
     let path = std::env::args().nth(1).unwrap_or("log".into());
     let mut file = BufWriter::new(File::create(path)?);
-    let mut seats = zemuschida::queue::<2>(8, 64, 5)?;
-    let mut reader = seats.pop().ok_or("no seat")?;
+    let (producers, mut consumer) = zemuschida::log::<2>(8, 64, 4)?;
     scope(|threads| {
-        for (thread, mut seat) in seats.into_iter().enumerate() {
+        for (thread, mut producer) in producers.into_iter().enumerate() {
             threads.spawn(move || {
                 for line in 0..LINES {
-                    while seat.put(&[thread as u64, line]).is_err() {
+                    while producer.put(&[thread as u64, line]).is_err() {
                         yield_now();
                     }
                 }
@@ -22,7 +21,7 @@ fn main() -> Result<(), Box<dyn std::error::Error>> {
         }
         let mut written = 0;
         while written < 4 * LINES {
-            match reader.take() {
+            match consumer.take() {
                 Ok((place, [thread, line])) => {
                     writeln!(file, "{place} thread {thread} line {line}")?;
                     written += 1;

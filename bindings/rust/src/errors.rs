@@ -110,6 +110,16 @@ pub enum MakeError {
     Memory,
 }
 
+/// There was no memory for a view.
+#[derive(Clone, Copy, Debug, PartialEq, Eq)]
+pub struct ViewError;
+
+impl Display for ViewError {
+    fn fmt(&self, f: &mut Formatter<'_>) -> Result {
+        f.write_str("there is no memory")
+    }
+}
+
 impl Display for Busy {
     fn fmt(&self, f: &mut Formatter<'_>) -> Result {
         f.write_str(match self {
@@ -160,3 +170,5 @@ impl Error for PutError {}
 impl Error for TakeError {}
 
 impl Error for MakeError {}
+
+impl Error for ViewError {}

@@ -21,9 +21,15 @@
 
 mod errors;
 mod sys;
+mod view;
 
-pub use errors::{Busy, Cursor, MakeError, PutError, TakeError};
+pub use errors::{Busy, Cursor, MakeError, PutError, TakeError, ViewError};
 use sys::Answer;
+use view::Room;
+pub use view::{Gap, View};
+
+// Room for a view that is tried first.
+const FIRST_ROOM: usize = 512;
 
 /// The right of one caller to put into a queue and take from it. It goes to another thread, and
 /// isn't shared. A call writes it, so each has a cache line of its own.
@@ -38,12 +44,40 @@ pub struct RingSeat<const W: usize> {
     raw: sys::Seat,
 }
 
+/// The right of one caller to put into a queue from which only its consumer takes.
+#[repr(align(128))]
+pub struct Producer<const W: usize> {
+    raw: sys::Seat,
+}
+
+/// The right to take from such a queue. It has one, so a second taker can't be written:
+///
+/// ```compile_fail
+/// let (mut producers, _consumer) = zemuschida::log::<1>(2, 2, 1).unwrap();
+/// let _ = producers[0].take();
+/// ```
+///
+/// ```compile_fail
+/// let (_producers, consumer) = zemuschida::log::<1>(2, 2, 1).unwrap();
+/// let _second = consumer.clone();
+/// ```
+#[repr(align(128))]
+pub struct Consumer<const W: usize> {
+    raw: sys::Seat,
+}
+
 // SAFETY: what lies behind a handle may be used by any thread, and `&mut self` gives it to one call
 // at a time.
 unsafe impl<const W: usize> Send for Seat<W> {}
 
 // SAFETY: as of `Seat`.
 unsafe impl<const W: usize> Send for RingSeat<W> {}
+
+// SAFETY: as of `Seat`.
+unsafe impl<const W: usize> Send for Producer<W> {}
+
+// SAFETY: as of `Seat`.
+unsafe impl<const W: usize> Send for Consumer<W> {}
 
 /// Makes a queue of so many blocks of `size` entries of `W` words that refuses entries when it is
 /// full, and hands out its seats. It goes with the last of them.
@@ -85,6 +119,32 @@ pub fn ring<const W: usize>(
     Ok(raw.into_iter().map(|raw| RingSeat { raw }).collect())
 }
 
+/// Makes a queue that refuses entries when it is full, and which one caller takes from: its
+/// consumer, and so many producers.
+///
+/// ```
+/// let (mut producers, mut consumer) = zemuschida::log::<1>(2, 2, 2)?;
+/// assert_eq!(producers[0].put(&[7]), Ok(0));
+/// assert_eq!(producers[1].put(&[8]), Ok(1));
+/// assert_eq!(consumer.take(), Ok((0, [7])));
+/// assert!(zemuschida::log::<1>(2, 2, 1024).is_err());
+/// # Ok::<(), zemuschida::MakeError>(())
+/// ```
+pub fn log<const W: usize>(
+    blocks: u64,
+    size: u64,
+    producers: usize,
+) -> Result<(Vec<Producer<W>>, Consumer<W>), MakeError> {
+    let (mut consumer, mut raw) = (sys::Seat::NONE, no_seats(producers));
+    let (width, n) = (W as u64, raw.len());
+    // SAFETY: handles that have no seat.
+    let code =
+        unsafe { sys::zem_log_make(blocks, size, width, &mut consumer, raw.as_mut_ptr(), n) };
+    made(code)?;
+    let producers = raw.into_iter().map(|raw| Producer { raw }).collect();
+    Ok((producers, Consumer { raw: consumer }))
+}
+
 fn make(
     make: sys::Make,
     blocks: u64,
@@ -92,18 +152,52 @@ fn make(
     width: usize,
     seats: usize,
 ) -> Result<Vec<sys::Seat>, MakeError> {
-    let mut raw: Vec<_> = (0..seats.min(sys::TOO_MANY_SEATS))
-        .map(|_| sys::Seat::NONE)
-        .collect();
+    let mut raw = no_seats(seats);
     // SAFETY: a slice of handles that have no seat.
-    match unsafe { make(blocks, size, width as u64, raw.as_mut_ptr(), raw.len()) } {
-        sys::OK => Ok(raw),
+    let code = unsafe { make(blocks, size, width as u64, raw.as_mut_ptr(), raw.len()) };
+    made(code)?;
+    Ok(raw)
+}
+
+fn no_seats(seats: usize) -> Vec<sys::Seat> {
+    (0..seats.min(sys::TOO_MANY_SEATS))
+        .map(|_| sys::Seat::NONE)
+        .collect()
+}
+
+fn made(code: u32) -> Result<(), MakeError> {
+    match code {
+        sys::OK => Ok(()),
         sys::BAD_BLOCKS => Err(MakeError::Blocks),
         sys::BAD_SIZE => Err(MakeError::Size),
         sys::BAD_WIDTH => Err(MakeError::Width),
         sys::BAD_SEATS => Err(MakeError::Seats),
         _ => Err(MakeError::Memory),
     }
+}
+
+// Puts by the call of the seat's kind.
+#[inline(always)]
+fn put<const W: usize>(
+    put: sys::Put,
+    raw: &mut sys::Seat,
+    entry: &[u64; W],
+) -> Result<u64, PutError> {
+    let mut answer = Answer::default();
+    // SAFETY: the handle is this call's alone, and `W` words are the queue's width.
+    let code = unsafe { put(raw, entry.as_ptr(), W, &mut answer) };
+    put_answer(code, &answer)
+}
+
+#[inline(always)]
+fn take<const W: usize>(
+    take: sys::Take,
+    raw: &mut sys::Seat,
+) -> Result<(u64, [u64; W]), TakeError> {
+    let (mut answer, mut out) = (Answer::default(), [0; W]);
+    // SAFETY: the handle is this call's alone, and `W` words are the queue's width.
+    let code = unsafe { take(raw, out.as_mut_ptr(), W, &mut answer) };
+    take_answer(code, &answer, out)
 }
 
 fn put_answer(code: u32, answer: &Answer) -> Result<u64, PutError> {
@@ -146,10 +240,7 @@ impl<const W: usize> Seat<W> {
     /// ```
     #[inline]
     pub fn put(&mut self, entry: &[u64; W]) -> Result<u64, PutError> {
-        let mut answer = Answer::default();
-        // SAFETY: the handle is this call's alone, and `W` words are the queue's width.
-        let code = unsafe { sys::zem_put(&mut self.raw, entry.as_ptr(), W, &mut answer) };
-        put_answer(code, &answer)
+        put(sys::zem_put, &mut self.raw, entry)
     }
 
     /// Takes an entry, and answers its place and its words.
@@ -161,10 +252,7 @@ impl<const W: usize> Seat<W> {
     /// ```
     #[inline]
     pub fn take(&mut self) -> Result<(u64, [u64; W]), TakeError> {
-        let (mut answer, mut out) = (Answer::default(), [0; W]);
-        // SAFETY: the handle is this call's alone, and `W` words are the queue's width.
-        let code = unsafe { sys::zem_take(&mut self.raw, out.as_mut_ptr(), W, &mut answer) };
-        take_answer(code, &answer, out)
+        take(sys::zem_take, &mut self.raw)
     }
 }
 
@@ -178,10 +266,7 @@ impl<const W: usize> RingSeat<W> {
     /// ```
     #[inline]
     pub fn put(&mut self, entry: &[u64; W]) -> Result<u64, PutError> {
-        let mut answer = Answer::default();
-        // SAFETY: the handle is this call's alone, and `W` words are the queue's width.
-        let code = unsafe { sys::zem_ring_put(&mut self.raw, entry.as_ptr(), W, &mut answer) };
-        put_answer(code, &answer)
+        put(sys::zem_ring_put, &mut self.raw, entry)
     }
 
     /// Takes an entry, and answers its place and its words.
@@ -193,10 +278,60 @@ impl<const W: usize> RingSeat<W> {
     /// ```
     #[inline]
     pub fn take(&mut self) -> Result<(u64, [u64; W]), TakeError> {
-        let (mut answer, mut out) = (Answer::default(), [0; W]);
-        // SAFETY: the handle is this call's alone, and `W` words are the queue's width.
-        let code = unsafe { sys::zem_ring_take(&mut self.raw, out.as_mut_ptr(), W, &mut answer) };
-        take_answer(code, &answer, out)
+        take(sys::zem_ring_take, &mut self.raw)
+    }
+
+    /// What the queue holds while it runs, and takes nothing. Each item that this seat has put and
+    /// that isn't overwritten is there, or its block is among the gaps.
+    ///
+    /// ```
+    /// let mut seats = zemuschida::ring::<1>(2, 2, 2)?;
+    /// for i in 0..100 {
+    ///     seats[0].put(&[i])?;
+    /// }
+    /// let view = seats[1].view()?;
+    /// assert_eq!(view.items, [(96, [96]), (97, [97]), (98, [98]), (99, [99])]);
+    /// assert!(view.gaps.is_empty());
+    /// assert_eq!(seats[0].take(), Ok((96, [96])));
+    /// # Ok::<(), Box<dyn std::error::Error>>(())
+    /// ```
+    pub fn view(&mut self) -> Result<View<W>, ViewError> {
+        let mut room = FIRST_ROOM;
+        loop {
+            match Room::new(room).fill(&mut self.raw) {
+                Err(sys::ROOM) => room *= 2,
+                filled => return filled.map_err(|_| ViewError),
+            }
+        }
+    }
+}
+
+impl<const W: usize> Producer<W> {
+    /// Puts an entry, and answers its place. Once the consumer is dropped, nobody takes, and the
+    /// queue fills.
+    ///
+    /// ```
+    /// let (mut producers, _consumer) = zemuschida::log::<2>(2, 2, 1)?;
+    /// assert_eq!(producers[0].put(&[1, 2]), Ok(0));
+    /// # Ok::<(), zemuschida::MakeError>(())
+    /// ```
+    #[inline]
+    pub fn put(&mut self, entry: &[u64; W]) -> Result<u64, PutError> {
+        put(sys::zem_log_put, &mut self.raw, entry)
+    }
+}
+
+impl<const W: usize> Consumer<W> {
+    /// Takes the oldest entry, and answers its place and its words.
+    ///
+    /// ```
+    /// let (_producers, mut consumer) = zemuschida::log::<2>(2, 2, 1)?;
+    /// assert_eq!(consumer.take(), Err(zemuschida::TakeError::Empty { place: 0 }));
+    /// # Ok::<(), zemuschida::MakeError>(())
+    /// ```
+    #[inline]
+    pub fn take(&mut self) -> Result<(u64, [u64; W]), TakeError> {
+        take(sys::zem_log_take, &mut self.raw)
     }
 }
 
@@ -211,5 +346,19 @@ impl<const W: usize> Drop for RingSeat<W> {
     fn drop(&mut self) {
         // SAFETY: the handle is this call's alone.
         unsafe { sys::zem_ring_free(&mut self.raw) }
+    }
+}
+
+impl<const W: usize> Drop for Producer<W> {
+    fn drop(&mut self) {
+        // SAFETY: the handle is this call's alone.
+        unsafe { sys::zem_log_free(&mut self.raw) }
+    }
+}
+
+impl<const W: usize> Drop for Consumer<W> {
+    fn drop(&mut self) {
+        // SAFETY: the handle is this call's alone.
+        unsafe { sys::zem_log_consumer_free(&mut self.raw) }
     }
 }

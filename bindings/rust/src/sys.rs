@@ -13,10 +13,11 @@ pub const BAD_BLOCKS: u32 = 20;
 pub const BAD_SIZE: u32 = 21;
 pub const BAD_WIDTH: u32 = 22;
 pub const BAD_SEATS: u32 = 23;
+pub const ROOM: u32 = 24;
 /// One more than a queue may have.
 pub const TOO_MANY_SEATS: usize = 1025;
 
-/// `zem_seat` and `zem_ring_seat`.
+/// `zem_seat` and the other seats.
 #[repr(C)]
 pub struct Seat {
     full: bool,
@@ -46,7 +47,31 @@ pub struct Answer {
     pub second: Cursor,
 }
 
+#[repr(C)]
+#[derive(Clone, Copy, Default)]
+pub struct Item {
+    pub place: u64,
+    pub words: [u64; 8],
+}
+
+#[repr(C)]
+#[derive(Clone, Copy, Default)]
+pub struct Gap {
+    pub block: u64,
+    pub committed: Cursor,
+    pub allocated: Cursor,
+}
+
+#[repr(C)]
+#[derive(Clone, Copy, Default)]
+pub struct View {
+    pub items: u64,
+    pub gaps: u64,
+}
+
 pub type Make = unsafe extern "C" fn(u64, u64, u64, *mut Seat, usize) -> u32;
+pub type Put = unsafe extern "C" fn(*mut Seat, *const u64, usize, *mut Answer) -> u32;
+pub type Take = unsafe extern "C" fn(*mut Seat, *mut u64, usize, *mut Answer) -> u32;
 
 extern "C" {
     pub fn zem_make(blocks: u64, size: u64, width: u64, seats: *mut Seat, n: usize) -> u32;
@@ -61,5 +86,35 @@ extern "C" {
         answer: *mut Answer,
     ) -> u32;
     pub fn zem_ring_take(seat: *mut Seat, out: *mut u64, width: usize, answer: *mut Answer) -> u32;
+    pub fn zem_ring_view(
+        seat: *mut Seat,
+        items: *mut Item,
+        items_room: usize,
+        gaps: *mut Gap,
+        gaps_room: usize,
+        view: *mut View,
+    ) -> u32;
     pub fn zem_ring_free(seat: *mut Seat);
+    pub fn zem_log_make(
+        blocks: u64,
+        size: u64,
+        width: u64,
+        consumer: *mut Seat,
+        seats: *mut Seat,
+        n: usize,
+    ) -> u32;
+    pub fn zem_log_put(
+        seat: *mut Seat,
+        entry: *const u64,
+        width: usize,
+        answer: *mut Answer,
+    ) -> u32;
+    pub fn zem_log_take(
+        consumer: *mut Seat,
+        out: *mut u64,
+        width: usize,
+        answer: *mut Answer,
+    ) -> u32;
+    pub fn zem_log_free(seat: *mut Seat);
+    pub fn zem_log_consumer_free(consumer: *mut Seat);
 }

@@ -1,67 +1,52 @@
--- Fresh seats of one queue that go into handles, one after another.
-use Rattle.std.proofs.Common.{◌≡◌, ◌∙◌, ℕ, ◌∷◌, [], ◌++◌, All, List, Option, Some, ap, length, map, refl, subst, sym, append-nil}
-use native.Mathlib.Nat.{suc-ne-zero}
+-- Fresh seats of one queue, and the handles that have them.
+use Rattle.std.proofs.Common.{◌≡◌, ◌∙◌, ℕ, ◌<◌, ◌++◌, ◌∷◌, [], All, List, ap, drop, get_or, length, map, subst, sym, take, arith}
 use Rattle.std.specs.List.{AllByRecursion}
-use Rattle.std.proofs.lemmas.List.{append_assoc, length-map, map_push}
-use Rattle.std.proofs.lemmas.List.Elements.{All-from_recursion, All-push, recursion_from_All}
-use Rattle.std.proofs.lemmas.List.FromFn.{length-range_with_len}
+use Rattle.std.proofs.lemmas.List.{length-map}
+use Rattle.std.proofs.lemmas.List.Elements.{recursion_from_All}
+use Rattle.std.proofs.lemmas.List.FromFn.{get_or-range_with_len, length-range_with_len}
 use Rattle.cursor_word.specs.Shape.{Grid}
 use Rattle.rail.specs.Outcome.{numbers_below}
-use Rattle.call_steps.specs.Queue.{IsFresh, Queue, SeatedWith}
-use Rattle.zemuschida_c.specs.Made.{HoldsFresh, HoldsFreshQueue, number_if, number_of}
-use Rattle.zemuschida_c.specs.Owned.{Owned}
-use Rattle.zemuschida_c.specs.declared.held.Held.{Held}
+use Rattle.call_steps.specs.Queue.{IsFresh, Queue, Seated}
+use Rattle.sole_core.specs.declared.phase.SolePhase.{SolePhase}
+use Rattle.sole_rail.specs.Consumer.{IsConsumerOf}
+use Rattle.zemuschida_c.specs.Made.{Hold, HoldLog}
+use Rattle.zemuschida_c.specs.Owned.{owned}
+use Rattle.zemuschida_c.specs.Seats.{HasConsumer, in_log_seat, log_kind}
+use Rattle.zemuschida_c.specs.declared.kinds.ZemLogConsumer.{ZemLogConsumer}
+use Rattle.zemuschida_c.specs.declared.kinds.ZemLogSeat.{ZemLogSeat}
 
-module _ {P M Handle : Type 0} (kind : Owned Queue (SeatedWith P M) → Held) (value : Handle → Option Held) where
-  abbrev numbers_in : List Handle → List ℕ
-  numbers_in handles = map (λ (h : Handle). number_if (value h)) handles
+-- as many seats as numbers, and as many handles as seats
+pub seats_counted : {Seat : Type 0} (number : Seat → ℕ) (seats : List Seat) (n : ℕ) → map number seats ≡ numbers_below n → length seats ≡ n
+seats_counted number seats n numbers = sym (length-map seats number) ∙ ap length numbers ∙ length-range_with_len 0 n
 
-  abbrev numbers : List (SeatedWith P M) → List ℕ
-  numbers seats = map (λ (s : SeatedWith P M). s.number) seats
+pub handles_counted : {Handle Seat Value : Type 0} (value : Handle → Value) (own : Seat → Value) (handles : List Handle) (seats : List Seat) → map value handles ≡ map own seats → length handles ≡ length seats
+handles_counted value own handles seats same = sym (length-map handles value) ∙ ap length same ∙ length-map seats own
 
-  pub record Dealt (queue : Queue) (all : List ℕ) (given : List Handle) (left : List (SeatedWith P M)) : Type 0 where
-    pub fresh : AllByRecursion (IsFresh queue) left
-    pub holds : All (HoldsFresh kind value queue) given
-    pub in_order : numbers_in given ++ numbers left ≡ all
+-- a list is its first and the rest
+pub parted : {X : Type 0} (all : List X) (first : X) (others : List X) → 0 < length all → first ≡ get_or all 0 first → others ≡ take 0 all ++ drop 1 all → all ≡ first ∷ others
+parted [] first others some is rest = absurd (omega (arith, some))
+parted (x ∷ xs) first others some is rest = ap (λ y. y ∷ xs) (sym is) ∙ ap (λ ys. first ∷ ys) (sym rest)
 
-  pub dealt_none : (queue : Queue) (all : List ℕ) (given : List Handle) (left : List (SeatedWith P M)) → given ≡ [] → All (IsFresh queue) left → numbers left ≡ all → Dealt queue all given left
-  dealt_none queue all given left none fresh same = subst (λ (hs : List Handle). Dealt queue all hs left) (sym none)
-      (record { fresh = recursion_from_All (IsFresh queue) left fresh; holds = All-from_recursion (HoldsFresh kind value queue) [] tt; in_order = same })
+-- the first of a new queue's seats takes
+pub first_takes : (queue : Queue) (n : ℕ) (all others : List (Seated SolePhase)) (first : Seated SolePhase) → 0 < n → all ≡ first ∷ others → All (IsFresh queue) all → map (λ (s : Seated SolePhase). s.number) all ≡ numbers_below n → IsConsumerOf queue first
+first_takes queue n all others first some parts fresh numbers =
+    let each : AllByRecursion (IsFresh queue) (first ∷ others) = recursion_from_All (IsFresh queue) (first ∷ others) (subst (All (IsFresh queue)) parts fresh) in
+    let named : map (λ (s : Seated SolePhase). s.number) (first ∷ others) ≡ numbers_below n = ap (map (λ (s : Seated SolePhase). s.number)) (sym parts) ∙ numbers in
+    (each.0.0, ap (λ ns. get_or ns 0 1) named ∙ get_or-range_with_len 0 n 0 1 some)
 
-  pub next_fresh : (queue : Queue) (all : List ℕ) (given : List Handle) (left rest : List (SeatedWith P M)) (seat : SeatedWith P M) → left ≡ seat ∷ rest → Dealt queue all given left → IsFresh queue seat
-  next_fresh queue all given left rest seat next dealt = let fresh : AllByRecursion (IsFresh queue) (seat ∷ rest) = subst (AllByRecursion (IsFresh queue)) next dealt.fresh in fresh.0
-
-  pub dealt_one : (queue : Queue) (all : List ℕ) (given more : List Handle) (left rest : List (SeatedWith P M)) (seat : SeatedWith P M) (handle : Handle) (own : Owned Queue (SeatedWith P M))
-      → left ≡ seat ∷ rest → more ≡ given ++ handle ∷ [] → value handle ≡ Some (kind own) → number_of (kind own) ≡ own.seat.number → own.rail ≡ queue → own.seat ≡ seat
-      → Dealt queue all given left → Dealt queue all more rest
-  dealt_one queue all given more left rest seat handle own next pushed has number rail is dealt =
-      let fresh : AllByRecursion (IsFresh queue) (seat ∷ rest) = subst (AllByRecursion (IsFresh queue)) next dealt.fresh in
-      let named : number_if (value handle) ≡ seat.number = ap number_if has ∙ number ∙ ap (λ (s : SeatedWith P M). s.number) is in
-      let moved : numbers_in (given ++ handle ∷ []) ++ numbers rest ≡ numbers_in given ++ numbers (seat ∷ rest) =
-      ap (λ (ns : List ℕ). ns ++ numbers rest) (map_push (λ (h : Handle). number_if (value h)) given handle ∙ ap (λ (n : ℕ). numbers_in given ++ n ∷ []) named)
-      ∙ append_assoc (numbers_in given) (seat.number ∷ []) (numbers rest) in
-      record {
-        fresh = fresh.1;
-        holds = subst (All (HoldsFresh kind value queue)) (sym pushed)
-            (All-push (HoldsFresh kind value queue) given handle dealt.holds (own, has, rail, subst (IsFresh queue) (sym is) fresh.0));
-        in_order = ap (λ (hs : List Handle). numbers_in hs ++ numbers rest) pushed ∙ moved ∙ sym (ap (λ (ss : List (SeatedWith P M)). numbers_in given ++ numbers ss) next) ∙ dealt.in_order;
-      }
-
-  pub dealt_all : (queue : Queue) (g : Grid) (given : List Handle) (left : List (SeatedWith P M)) → left ≡ [] → queue.shape ≡ g → Dealt queue (numbers_below g.seats) given left → HoldsFreshQueue kind value g given
-  dealt_all queue g given left none shape dealt = (
-    queue,
-    shape,
-    dealt.holds,
-    sym (append-nil (numbers_in given)) ∙ ap (λ (ss : List (SeatedWith P M)). numbers_in given ++ numbers ss) (sym none) ∙ dealt.in_order,
-  )
-
-  pub dealt_count : (queue : Queue) (n : ℕ) (given : List Handle) (left : List (SeatedWith P M)) → left ≡ [] → Dealt queue (numbers_below n) given left → length given ≡ n
-  dealt_count queue n given left none dealt = sym (length-map given (λ (h : Handle). number_if (value h)))
-      ∙ ap length (sym (append-nil (numbers_in given)) ∙ ap (λ (ss : List (SeatedWith P M)). numbers_in given ++ numbers ss) (sym none) ∙ dealt.in_order) ∙ length-range_with_len 0 n
-
-  pub handed_out : (g shape : Grid) (handles all : List Handle) → shape ≡ g → handles ≡ all → HoldsFreshQueue kind value shape all → HoldsFreshQueue kind value g handles
-  handed_out g shape handles all same moved fresh = subst (λ (x : Grid). HoldsFreshQueue kind value x handles) same (subst (HoldsFreshQueue kind value shape) (sym moved) fresh)
-
-pub none_left : {A : Type 0} (xs : List A) → length xs ≡ 0 → xs ≡ []
-none_left [] e = refl
-none_left (x ∷ xs) e = absurd (suc-ne-zero (length xs) e)
+pub log_made : (shape : Grid) (queue first_queue others_queue : Queue) (all others : List (Seated SolePhase)) (first : Seated SolePhase) (taker : ZemLogConsumer) (handles : List ZemLogSeat)
+    → queue.shape ≡ shape → All (IsFresh queue) all → map (λ (s : Seated SolePhase). s.number) all ≡ numbers_below shape.seats → all ≡ first ∷ others
+    → first_queue ≡ queue → others_queue ≡ queue → HasConsumer taker (owned first_queue first) → Hold log_kind in_log_seat others_queue handles others
+    → HoldLog shape taker handles
+log_made shape queue first_queue others_queue all others first taker handles of_shape fresh numbers parts first_is others_is takes hold = record {
+  queue = queue;
+  of_shape = of_shape;
+  first = first;
+  others = others;
+  fresh = record {
+    fresh = subst (All (IsFresh queue)) parts fresh;
+    numbers = ap (map (λ (s : Seated SolePhase). s.number)) (sym parts) ∙ numbers ∙ ap (λ (g : Grid). numbers_below g.seats) (sym of_shape);
+  };
+  takes = subst (λ (q : Queue). HasConsumer taker (owned q first)) first_is takes;
+  hold = subst (λ (q : Queue). Hold log_kind in_log_seat q handles others) others_is hold;
+}

@@ -1,3 +1,4 @@
 pub mod Boxes
 pub mod Dealing
+pub mod Filling
 pub mod Words

@@ -5,8 +5,7 @@ use Rattle.rail.specs.Rail.{Puts, Takes}
 use Rattle.rail.specs.declared.entry.Placed.{Placed}
 use Rattle.rail.specs.declared.answer.Put.{Put}
 use Rattle.rail.specs.declared.answer.Take.{Take}
-use Rattle.call_steps.specs.Queue.{Queue, SeatedWith}
-use Rattle.zemuschida_c.specs.Owned.{Owned}
+use Rattle.zemuschida_c.specs.Owned.{SeatOf}
 use Rattle.zemuschida_c.specs.Codes.{put_code, put_numbers, take_code, take_numbers}
 use Rattle.zemuschida_c.specs.declared.answer.ZemAnswer.{ZemAnswer}
 
@@ -30,7 +29,7 @@ pub record GivesTake (g : Grid) (drops : Bool) (made : List Placed) (out_old out
 
 module _ {P M : Type 0} where
   -- a put of this entry by a seat, before and after it, gave this code and these numbers
-  pub record HasPut (drops : Bool) (old new : Owned Queue (SeatedWith P M)) (entry : List ℕ) (code : ℕ)
+  pub record HasPut (drops : Bool) (old new : SeatOf P M) (entry : List ℕ) (code : ℕ)
       (numbers : ZemAnswer) : Type 0 where
     pub queue : new.rail ≡ old.rail
     pub number : new.seat.number ≡ old.seat.number
@@ -39,7 +38,7 @@ module _ {P M : Type 0} where
         new.seat.view.trail code numbers
 
   -- a take into these words by a seat, before and after it, gave this code and these numbers
-  pub record HasTaken (drops : Bool) (old new : Owned Queue (SeatedWith P M)) (out_old out : List ℕ)
+  pub record HasTaken (drops : Bool) (old new : SeatOf P M) (out_old out : List ℕ)
       (code : ℕ) (numbers : ZemAnswer) : Type 0 where
     pub queue : new.rail ≡ old.rail
     pub number : new.seat.number ≡ old.seat.number

@@ -53,6 +53,9 @@ bad_width = 22
 abbrev pub bad_seats : ℕ
 bad_seats = 23
 
+abbrev pub no_room : ℕ
+no_room = 24
+
 abbrev pub shown : Cursor → ZemCursor
 shown c = record { block = c.block; offset = c.offset }
 

@@ -3,7 +3,7 @@ use mathlib.Core.Bool.{Bool, true, false}
 use Rattle.std.specs.declared.option.Option.{Option}
 use Rattle.std.specs.declared.option.Option.TheVariants.{None, Some}
 use Rattle.zemuschida_c.specs.declared.held.Held.{Held}
-use Rattle.zemuschida_c.specs.declared.held.Held.TheVariants.{Seat, RingSeat}
+use Rattle.zemuschida_c.specs.declared.held.Held.TheVariants.{Seat, RingSeat, LogSeat, LogConsumer}
 
 -- whether there is a value
 abbrev pub is_full : {A : Type 0} → Option A → Bool
@@ -17,8 +17,16 @@ fits is_kind (Some x) = is_kind x
 
 abbrev pub is_seat : Held → Bool
 is_seat (Seat seat) = true
-is_seat (RingSeat seat) = false
+is_seat held = false
 
 abbrev pub is_ring_seat : Held → Bool
-is_ring_seat (Seat seat) = false
 is_ring_seat (RingSeat seat) = true
+is_ring_seat held = false
+
+abbrev pub is_log_seat : Held → Bool
+is_log_seat (LogSeat seat) = true
+is_log_seat held = false
+
+abbrev pub is_log_consumer : Held → Bool
+is_log_consumer (LogConsumer seat) = true
+is_log_consumer held = false

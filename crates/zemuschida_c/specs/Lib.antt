@@ -1,7 +1,9 @@
 pub mod Calls
 pub mod Codes
 pub mod Held
+pub mod Looked
 pub mod Made
 pub mod Owned
 pub mod Seats
 pub mod Slot
+pub mod Viewed

@@ -1,30 +1,43 @@
 -- What the making of a queue hands out.
-use Rattle.std.specs.Prelude.{◌≡◌, ℕ, List, Option, None, Some, map}
+use Rattle.std.specs.Prelude.{◌≡◌, List, ◌∷◌, Option, Some, map}
 use Rattle.std.specs.List.{All}
 use Rattle.cursor_word.specs.Shape.{Grid}
 use Rattle.rail.specs.Outcome.{numbers_below}
-use Rattle.call_steps.specs.Queue.{IsFresh, Queue, SeatedWith}
-use Rattle.zemuschida_c.specs.Owned.{Owned}
+use Rattle.call_steps.specs.Queue.{IsFresh, Queue, Seated, SeatedWith}
+use Rattle.sole_core.specs.declared.phase.SolePhase.{SolePhase}
+use Rattle.zemuschida_c.specs.Owned.{SeatOf, owned}
+use Rattle.zemuschida_c.specs.Seats.{HasConsumer, in_log_seat, log_kind}
 use Rattle.zemuschida_c.specs.declared.held.Held.{Held}
-use Rattle.zemuschida_c.specs.declared.held.Held.TheVariants as kinds
+use Rattle.zemuschida_c.specs.declared.kinds.ZemLogConsumer.{ZemLogConsumer}
+use Rattle.zemuschida_c.specs.declared.kinds.ZemLogSeat.{ZemLogSeat}
 
--- the number of a seat
-abbrev pub number_of : Held → ℕ
-number_of (kinds.Seat s) = s.seat.number
-number_of (kinds.RingSeat s) = s.seat.number
+-- all seats of a queue, in order of their numbers, which have made and taken nothing
+pub record AreFresh {P M : Type 0} (queue : Queue) (seats : List (SeatedWith P M)) : Type 0 where
+  pub fresh : All (IsFresh queue) seats
+  pub numbers : map (λ (s : SeatedWith P M). s.number) seats ≡ numbers_below queue.shape.seats
 
--- none counts as 0
-abbrev pub number_if : Option Held → ℕ
-number_if None = 0
-number_if (Some held) = number_of held
+-- these handles have these seats of a queue, in this order
+abbrev pub Hold : {P M Handle : Type 0} → (SeatOf P M → Held) → (Handle → Option Held) → Queue
+    → List Handle → List (SeatedWith P M) → Type 0
+Hold {P} {M} kind value queue handles seats =
+    map value handles ≡ map (λ (s : SeatedWith P M). Some (kind (owned queue s))) seats
 
-module _ {P M Handle : Type 0} (kind : Owned Queue (SeatedWith P M) → Held) (value : Handle → Option Held) where
-  -- the handle has a seat of this queue that has made and taken nothing
-  abbrev pub HoldsFresh : Queue → Handle → Type 0
-  HoldsFresh queue handle = (s : Owned Queue (SeatedWith P M)) × (value handle ≡ Some (kind s))
-      × (s.rail ≡ queue) × IsFresh queue s.seat
+-- these handles have all seats of a new queue of this shape, in order of their numbers
+pub record HoldQueue {P M Handle : Type 0} (kind : SeatOf P M → Held)
+    (value : Handle → Option Held) (shape : Grid) (handles : List Handle) : Type 0 where
+  pub queue : Queue
+  pub of_shape : queue.shape ≡ shape
+  pub seats : List (SeatedWith P M)
+  pub fresh : AreFresh queue seats
+  pub hold : Hold kind value queue handles seats
 
-  -- each handle has such a seat, of one queue of this shape, in order of their numbers
-  abbrev pub HoldsFreshQueue : Grid → List Handle → Type 0
-  HoldsFreshQueue g handles = (queue : Queue) × (queue.shape ≡ g) × All (HoldsFresh queue) handles
-      × (map (λ (h : Handle). number_if (value h)) handles ≡ numbers_below g.seats)
+-- the consumer has the first seat of a new queue of this shape, and the handles have the others
+pub record HoldLog (shape : Grid) (consumer : ZemLogConsumer) (handles : List ZemLogSeat)
+    : Type 0 where
+  pub queue : Queue
+  pub of_shape : queue.shape ≡ shape
+  pub first : Seated SolePhase
+  pub others : List (Seated SolePhase)
+  pub fresh : AreFresh queue (first ∷ others)
+  pub takes : HasConsumer consumer (owned queue first)
+  pub hold : Hold log_kind in_log_seat queue handles others

@@ -34,6 +34,8 @@ pub const BAD_WIDTH: u32 = 22;
 
 pub const BAD_SEATS: u32 = 23;
 
+pub const ROOM: u32 = 24;
+
 /// A block number and an offset in it.
 #[repr(C)]
 #[derive(Clone, Copy)]
@@ -64,7 +66,7 @@ const NOTHING: ZemAnswer = ZemAnswer {
     second: NOWHERE,
 };
 
-fn show(cursor: Cursor) -> ZemCursor
+pub(crate) fn show(cursor: Cursor) -> ZemCursor
     ensures { result ≡ shown cursor }
 {
     ZemCursor {

@@ -1,12 +1,11 @@
-//! The handles that C holds: of a seat, and of a seat of a ring.
-ghost use Rattle.std.specs.Prelude.{◌≡◌, IfOk, IfSome, IfNone, Some, None, true};
+//! What every handle that C holds is.
+ghost use Rattle.std.specs.Prelude.{◌≡◌, IfSome, IfNone, Some, None};
 ghost use Rattle.std.specs.Mem.{manually_drop_value};
-ghost use Rattle.zemuschida_c.specs.Held.{fits, is_full, is_ring_seat, is_seat};
+ghost use Rattle.zemuschida_c.specs.Held.{is_full};
 
-use crate::held::{Held, Kept, give_up, keep};
+use crate::held::{Kept, give_up};
 use crate::slot::Slot;
-use std::alloc::{AllocError, Global};
-use std::mem::replace;
+use std::alloc::Global;
 
 /// Something on the heap, or nothing. All bytes 0 is nothing.
 #[repr(C)]
@@ -26,7 +25,7 @@ impl Drop for Handle {
 }
 
 impl Handle {
-    fn none(alloc: Global) -> Handle
+    pub(crate) fn none(alloc: Global) -> Handle
         ensures { result.slot.value ≡ None }
     {
         Handle {
@@ -36,7 +35,7 @@ impl Handle {
         }
     }
 
-    fn of(alloc: Global, kept: Kept) -> Handle
+    pub(crate) fn of(alloc: Global, kept: Kept) -> Handle
         ensures { result.slot.value ≡ Some (manually_drop_value kept.value) }
     {
         Handle {
@@ -46,9 +45,10 @@ impl Handle {
         }
     }
 
-    fn into_kept(self) -> Option<Kept>
+    pub(crate) fn into_kept(self) -> Option<Kept>
         ensures none { IfNone result (self.slot.value ≡ None) }
-        ensures some { IfSome result (λ kept. self.slot.value ≡ Some (manually_drop_value kept.value)) }
+        ensures some { IfSome result
+            (λ kept. self.slot.value ≡ Some (manually_drop_value kept.value)) }
     {
         let Handle { full, alloc, slot } = self;
         if full {
@@ -57,97 +57,5 @@ impl Handle {
             drop(slot);
             None
         }
-    }
-}
-
-/// A seat of a queue that refuses, or none.
-#[repr(C)]
-#[derive(Drop)]
-pub struct ZemSeat {
-    pub(crate) handle: Handle,
-    ghost kind: { fits is_seat handle.slot.value ≡ true },
-}
-
-impl ZemSeat {
-    pub(crate) fn none(alloc: Global) -> ZemSeat
-        ensures { result.handle.slot.value ≡ None }
-    {
-        ZemSeat {
-            handle: Handle::none(alloc),
-        }
-    }
-
-    pub(crate) fn of(alloc: Global, kept: Kept) -> ZemSeat
-        requires { is_seat (manually_drop_value kept.value) ≡ true }
-        ensures { result.handle.slot.value ≡ Some (manually_drop_value kept.value) }
-    {
-        ZemSeat {
-            handle: Handle::of(alloc, kept),
-        }
-    }
-
-    pub(crate) fn new(alloc: Global, held: Held) -> Result<ZemSeat, AllocError>
-        requires { is_seat held ≡ true }
-        ensures { IfOk result (λ seat. seat.handle.slot.value ≡ Some held) }
-    {
-        Ok(ZemSeat::of(alloc, keep(alloc, held)?))
-    }
-
-    /// The seat, which leaves none behind.
-    pub(crate) fn take(&mut self, alloc: Global) -> Option<Kept>
-        ensures new { self.new.handle.slot.value ≡ None }
-        ensures none { IfNone result (self.old.handle.slot.value ≡ None) }
-        ensures some { IfSome result (λ kept. self.old.handle.slot.value
-            ≡ Some (manually_drop_value kept.value)) }
-        ensures kind { IfSome result (λ kept. is_seat (manually_drop_value kept.value) ≡ true) }
-    {
-        let ZemSeat { handle } = replace(self, ZemSeat::none(alloc));
-        handle.into_kept()
-    }
-}
-
-/// A seat of a queue that overwrites, or none.
-#[repr(C)]
-#[derive(Drop)]
-pub struct ZemRingSeat {
-    pub(crate) handle: Handle,
-    ghost kind: { fits is_ring_seat handle.slot.value ≡ true },
-}
-
-impl ZemRingSeat {
-    pub(crate) fn none(alloc: Global) -> ZemRingSeat
-        ensures { result.handle.slot.value ≡ None }
-    {
-        ZemRingSeat {
-            handle: Handle::none(alloc),
-        }
-    }
-
-    pub(crate) fn of(alloc: Global, kept: Kept) -> ZemRingSeat
-        requires { is_ring_seat (manually_drop_value kept.value) ≡ true }
-        ensures { result.handle.slot.value ≡ Some (manually_drop_value kept.value) }
-    {
-        ZemRingSeat {
-            handle: Handle::of(alloc, kept),
-        }
-    }
-
-    pub(crate) fn new(alloc: Global, held: Held) -> Result<ZemRingSeat, AllocError>
-        requires { is_ring_seat held ≡ true }
-        ensures { IfOk result (λ seat. seat.handle.slot.value ≡ Some held) }
-    {
-        Ok(ZemRingSeat::of(alloc, keep(alloc, held)?))
-    }
-
-    /// The seat, which leaves none behind.
-    pub(crate) fn take(&mut self, alloc: Global) -> Option<Kept>
-        ensures new { self.new.handle.slot.value ≡ None }
-        ensures none { IfNone result (self.old.handle.slot.value ≡ None) }
-        ensures some { IfSome result (λ kept. self.old.handle.slot.value
-            ≡ Some (manually_drop_value kept.value)) }
-        ensures kind { IfSome result (λ kept. is_ring_seat (manually_drop_value kept.value) ≡ true) }
-    {
-        let ZemRingSeat { handle } = replace(self, ZemRingSeat::none(alloc));
-        handle.into_kept()
     }
 }

@@ -2,17 +2,22 @@
 ghost use Rattle.std.specs.Prelude.{◌≡◌, IfOk};
 ghost use Rattle.std.specs.Mem.{manually_drop_value};
 
+use crate::consumer::Consumer;
 use crate::own::OwnSeat;
 use drop_rail::DropRail;
 use retry_rail::RetryRail;
+use sole_rail::SoleRail;
 use std::alloc::{AllocError, Global};
 use std::mem::ManuallyDrop;
 
-/// A seat of a queue that refuses, or of one that overwrites.
+/// A seat of a queue that refuses, of one that overwrites, or of one with a sole consumer, whose
+/// seat is of a kind of its own.
 #[derive(Drop)]
 pub enum Held {
     Seat(OwnSeat<RetryRail>),
     RingSeat(OwnSeat<DropRail>),
+    LogSeat(OwnSeat<SoleRail>),
+    LogConsumer(Consumer),
 }
 
 /// It stays on the heap while its pointer is with C, whatever code is left by then.

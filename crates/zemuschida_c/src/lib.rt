@@ -3,15 +3,24 @@
 
 mod answer;
 mod calls;
+mod consumer;
 mod handle;
 mod held;
-mod make;
-mod make_ring;
+mod kinds;
+mod log;
+mod look;
+mod making;
 mod own;
+mod queue;
+mod ring;
+mod seating;
 mod slot;
+mod view;
 
 pub use answer::{ZemAnswer, ZemCursor};
-pub use calls::{zem_free, zem_put, zem_ring_free, zem_ring_put, zem_ring_take, zem_take};
-pub use handle::{ZemRingSeat, ZemSeat};
-pub use make::zem_make;
-pub use make_ring::zem_ring_make;
+pub use kinds::{ZemLogConsumer, ZemLogSeat, ZemRingSeat, ZemSeat};
+pub use log::{zem_log_consumer_free, zem_log_free, zem_log_make, zem_log_put, zem_log_take};
+pub use look::zem_ring_look_head;
+pub use queue::{zem_free, zem_make, zem_put, zem_take};
+pub use ring::{zem_ring_free, zem_ring_make, zem_ring_put, zem_ring_take};
+pub use view::{ZemGap, ZemItem, ZemView, zem_ring_view};

@@ -1,13 +1,21 @@
 //! A seat with its queue.
-ghost use Rattle.std.specs.Prelude.{◌≡◌, ◌≢◌, ◌<◌, ◌≤◌, length};
+ghost use Rattle.std.specs.Prelude.{◌≡◌, ◌≢◌, ◌<◌, ◌≤◌, length, slice_index};
 ghost use Rattle.std.specs.Arc.{arc_value};
 ghost use Rattle.cursor_word.specs.Cursor.{most_puts};
+ghost use Rattle.block_looks.specs.Shown.{IsNewest};
+ghost use Rattle.block_looks.specs.declared.look.LookAfter.TheVariants as after;
+ghost use Rattle.block_looks.specs.declared.look.LookPhase.TheVariants as phase;
+ghost use Rattle.drop_rail.specs.Looking.{HasLooked};
+ghost use Rattle.flight_view.specs.Views.{HasWalked};
 ghost use Rattle.zemuschida_c.specs.Calls.{GivesPut, GivesTake};
 ghost use Rattle.zemuschida_c.specs.Codes.{spent, wrong_width};
 
 use crate::answer::{SPENT, WIDTH, ZemAnswer, give_put, give_take};
+use cursor_word::Cursor;
+use drop_rail::DropRail;
+use flight_view::{View, flight_view};
 use rail::Rail;
-use std::alloc::Global;
+use std::alloc::{AllocError, Global};
 use std::marker::Model;
 use std::sync::Arc;
 
@@ -28,14 +36,12 @@ impl<Q: Rail> Model for OwnSeat<Q> {
 
     ghost view = { λ s. record { rail = arc_value s.rail; seat = s.seat } };
 
-    ghost invariant = { λ s. Q.PutsInto (arc_value s.rail) s.seat
-        × Q.TakesFrom (arc_value s.rail) s.seat };
+    ghost invariant = { λ s. Q.PutsInto (arc_value s.rail) s.seat };
 }
 
 impl<Q: Rail> OwnSeat<Q> {
     pub(crate) fn of(rail: Arc<Q, Global>, seat: Q::Seat) -> OwnSeat<Q>
-        requires puts { Q.PutsInto (arc_value rail) seat }
-        requires takes { Q.TakesFrom (arc_value rail) seat }
+        requires { Q.PutsInto (arc_value rail) seat }
         ensures rail { result.rail ≡ arc_value rail }
         ensures seat { result.seat ≡ seat }
     {
@@ -44,6 +50,14 @@ impl<Q: Rail> OwnSeat<Q> {
             seat,
             apart: [0; 12],
         }
+    }
+
+    /// The seat was made with the queue. It does nothing when it runs.
+    #[inline(always)]
+    pub(crate) fn sits(&self)
+        ensures { Q.PutsInto self.now.rail self.now.seat }
+    {
+        let _rail = &self.rail;
     }
 
     /// Puts an entry of the queue's width, where the seat isn't spent.
@@ -75,6 +89,7 @@ impl<Q: Rail> OwnSeat<Q> {
     /// Takes an entry into words of the queue's width.
     #[inline(always)]
     pub(crate) fn take(&mut self, out: &mut [u64], answer: &mut ZemAnswer) -> u32
+        requires { Q.TakesFrom self.old.rail self.old.seat }
         ensures rail { self.new.rail ≡ self.old.rail }
         ensures number { Q.number_of self.new.seat ≡ Q.number_of self.old.seat }
         ensures made { Q.made self.new.seat ≡ Q.made self.old.seat }
@@ -90,5 +105,26 @@ impl<Q: Rail> OwnSeat<Q> {
             return WIDTH;
         }
         give_take(&self.rail.take(&mut self.seat, out), answer)
+    }
+}
+
+impl OwnSeat<DropRail> {
+    /// A view of the queue.
+    pub(crate) fn view(&mut self, alloc: Global) -> Result<View, AllocError>
+        ensures rail { self.new.rail ≡ self.old.rail }
+        ensures walk { HasWalked self.old.rail.shape self.old.seat self.new.seat result }
+    {
+        flight_view(alloc, &self.rail, &mut self.seat)
+    }
+
+    /// Looks at the head of the queue.
+    pub(crate) fn look_head(&mut self) -> Cursor
+        ensures rail { self.new.rail ≡ self.old.rail }
+        ensures look { HasLooked self.old.rail.shape self.old.seat self.new.seat phase.Head
+            (after.Head result) }
+        ensures newest { IsNewest self.old.rail.shape self.new.seat.view.made
+            (slice_index self.new.seat.memory.look_trail 0) result }
+    {
+        self.rail.look_head(&mut self.seat)
     }
 }
