@@ -10,3 +10,6 @@ for figures in queue count trace; do
     echo "bench/$figures.sh:"
     "$top/bench/$figures.sh"
 done
+"$top/bindings/build"
+echo "bindings/bench:"
+"$top/bindings/bench"
