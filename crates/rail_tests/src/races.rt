@@ -209,9 +209,9 @@ fn race<R: Threads + Sync>(
     );
 }
 
-// The size of a block, how many seats race, and what they meet. Where seats run in turn on one
-// processor, as many calls of others come between two steps as blocks of two entries have no room
-// for.
+// The size of a block, how many seats race, and what they meet. That another take reserved in the
+// same block is told only where all calls that come between two steps fit in that block, and where
+// the seats run in turn on one processor these are many.
 const ROWS: &[(u64, u64, &[Kind])] = &[
     (
         2,
