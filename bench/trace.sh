@@ -1,6 +1,6 @@
 #!/usr/bin/env bash
-# Times a run that writes a trace of some 190,000 spans, the same run with --fold, and reading that trace by bbq-trace, and by json.load of python3 and by jq
-# where they are there: the least of five runs each in turn, and the peak memory of each reader where GNU time is there.
+# Times a run that writes a trace of some 190,000 spans, the same run with --fold, writing such a trace by plain Rust where rustc is there, and reading it by
+# bbq-trace, and by json.load of python3 and by jq where they are there: the least of five runs each in turn, and the peak memory of bbq-trace where GNU time is there.
 set -eu
 top=$(cd "$(dirname "$0")/.." && pwd)
 folder=$(mktemp -d)
@@ -39,6 +39,15 @@ folded=$(least profile "${run[@]}" --fold)
 awk -v f="$few" -v p="$plain" -v o="$folded" 'BEGIN {
     printf "few pieces %d ms, many %d ms, many and --fold %d ms\n", f, p, o
     if (p > f) printf "folding to noting and writing the spans %.2f\n", (o - p) / (p - f) }'
+
+if command -v rustc >/dev/null; then
+    rustc --edition 2021 -O -o plain_trace "$top/bench/plain_trace.rs"
+    pieces=$(grep -o '"cat":"piece"' trace.json | wc -l)
+    by_plain_rust() { ./plain_trace "$pieces" >plain.json; }
+    written=$(least by_plain_rust)
+    awk -v f="$few" -v p="$plain" -v w="$written" -v n="$pieces" 'BEGIN {
+        printf "a trace of %d pieces by plain Rust %d ms; noting and writing the spans to that %.1f\n", n, w, (p - f) / w }'
+fi
 
 ours=$(least by_bbq_trace)
 for reader in bbq_trace python3 jq; do
