@@ -13,7 +13,7 @@ use std::thread;
 use std::thread::Threads;
 
 // Each seat puts and takes so often at most.
-const MOST_TURNS: u64 = 10_000_000;
+const MOST_TURNS: u64 = 100_000_000;
 
 const THREADS: usize = 4;
 
@@ -209,11 +209,12 @@ fn race<R: Threads + Sync>(
     );
 }
 
-// The size of a block, how many seats race, and what they meet. That another take reserved in the
-// same block is told only where all calls that come between two steps fit in that block, and where
-// the seats run in turn on one processor these are many.
-const ROWS: &[(u64, u64, &[Kind])] = &[
+// The blocks, their size, how many seats race, and what they meet. That another take reserved in the
+// same block is told only where the block isn't reused between two steps, and where the seats run in
+// turn on one processor there are many calls between these.
+const ROWS: &[(u64, u64, u64, &[Kind])] = &[
     (
+        2,
         2,
         4,
         &[
@@ -225,13 +226,13 @@ const ROWS: &[(u64, u64, &[Kind])] = &[
             Kind::TakeAfterReuse,
         ],
     ),
-    (65536, 2, &[Kind::TakeAfterTake]),
+    (16, 65536, 2, &[Kind::TakeAfterTake]),
 ];
 
 #[test]
 fn each_answer_that_no_call_alone_is_given_is_met(rt: HostRuntime) -> Result<(), Fail> {
-    for (size, seats, kinds) in ROWS {
-        let shape = Shape::new(2, *size, 1, *seats)?;
+    for (blocks, size, seats, kinds) in ROWS {
+        let shape = Shape::new(*blocks, *size, 1, *seats)?;
         let (queue, mut seats) = DropRail::make(rt.alloc(), shape)?;
         let met = Met::none();
         race(&rt, &queue, seats.as_mut_slice(), &met, kinds);

@@ -25,7 +25,7 @@ const PRODUCERS: usize = 3;
 const ENTRIES: u64 = 2000;
 
 // A seat calls so often at most.
-const MOST_TURNS: u64 = 10_000_000;
+const MOST_TURNS: u64 = 100_000_000_000;
 
 // The number that the next entry of each seat is to have, how many entries came otherwise, and how
 // many producers have ended.
@@ -70,6 +70,13 @@ impl Order {
     }
 }
 
+// Lets another thread run, in a few of the turns: beside other work each time may cost much.
+fn pause(turn: u64) {
+    if turn % 4096 == 0 {
+        thread::yield_now();
+    }
+}
+
 // Puts its entries, each until it is accepted.
 fn put_often(queue: &SoleRail, seat: &mut SoleSeat)
     requires seat { IsSeatOf queue.now seat.old }
@@ -79,14 +86,14 @@ fn put_often(queue: &SoleRail, seat: &mut SoleSeat)
 {
     let number = seat.number();
     let _most = queue.shape().most_puts();
-    for _turn in 0..MOST_TURNS {
+    for turn in 0..MOST_TURNS {
         let count = seat.puts();
         if count >= ENTRIES {
             return;
         }
         match queue.put(seat, &[number, count]) {
             Put::Ok(_) => {}
-            _ => thread::yield_now(),
+            _ => pause(turn),
         }
     }
 }
@@ -97,14 +104,14 @@ fn take_often(queue: &SoleRail, seat: &mut SoleSeat, order: &Order)
     requires width { queue.now.shape.width ≡ 2 }
     ensures seat { IsConsumerOf queue.now seat.new }
 {
-    for _turn in 0..MOST_TURNS {
+    for turn in 0..MOST_TURNS {
         if order.ended.load(Ordering::SeqCst) >= PRODUCERS as u64 {
             return;
         }
         let mut words = [0; 2];
         match queue.take(seat, words.as_mut_slice()) {
             Take::Ok(_) => order.note(words.as_slice()),
-            _ => thread::yield_now(),
+            _ => pause(turn),
         }
     }
 }
