@@ -14,6 +14,7 @@ ghost use Rattle.call_steps.specs.Queue.{IsFresh, IsSeatOf, Queue, SeatedWith};
 ghost use Rattle.shared_seats.specs.Seats.{made_by_all, taken_by_all};
 ghost use Rattle.block_looks.specs.declared.looks.Looks.{Looks};
 ghost use Rattle.block_looks.specs.Looks.{no_looks};
+ghost use Rattle.drop_rail.specs.Closed.{counted_live};
 ghost use Rattle.drop_rail.specs.Looking.{HasSeenAccepted};
 
 use block_looks::Looks;
@@ -67,6 +68,23 @@ impl Model for DropDone {
     ghost invariant = { λ d. d.accepted ≡ length (made_by_all d.seats.value.items) };
 }
 
+impl DropDone {
+    /// Gives up all but what was left in it.
+    pub fn into_left(self) -> Batch
+        ensures { result.items ≡ self.left }
+    {
+        let DropDone { left, .. } = self;
+        left
+    }
+}
+
+/// How many entries the close of a queue lays out, where its seats put so many.
+pub fn live_number(shape: &Shape, puts: u64) -> u64
+    ensures { result ≡ puts - low shape.now puts }
+{
+    puts - shape.first_live_place(puts)
+}
+
 impl DropRail {
     /// A queue of this shape, and all its seats. None of them has made or taken anything.
     pub fn make(alloc: Global, shape: Shape) -> Result<(DropRail, Vec<DropSeat>), AllocError>
@@ -78,6 +96,34 @@ impl DropRail {
     {
         let (queue, seats) = SharedQueue::<DropPhase, Looks>::make(alloc, shape)?;
         Ok((DropRail { queue }, seats))
+    }
+
+    /// The memory that the close of the queue with these seats needs.
+    pub fn room_to_close(&self, alloc: Global, seats: &[DropSeat]) -> Result<Batch, AllocError>
+        ensures { IfOk result (λ left. left
+            ≡ record { items = []; spare = counted_live self.now.shape seats.now }) }
+    {
+        let (puts, _) = totals(seats);
+        Batch::with_room(alloc, live_number(&self.queue.shape(), puts) as usize)
+    }
+
+    /// Closes the queue, with all its seats. It takes no memory.
+    pub fn close_into(self, seats: Vec<DropSeat>, left: Batch) -> DropDone
+        requires seats { All (IsSeatOf self) seats.items }
+        requires all { IsPermutation (map (λ (s : SeatedWith DropPhase Looks). s.number) seats.items)
+            (numbers_below self.shape.seats) }
+        requires empty { left.items ≡ [] }
+        requires room { counted_live self.shape seats.items ≤ left.spare }
+        ensures shape { result.shape ≡ self.shape }
+        ensures accepted { IsAccepted (made_by_all seats.items) result.accepted }
+        ensures taken { IsPermutation (taken_by_all seats.items) result.taken }
+        ensures order { IsRising (places result.taken) }
+        ensures drop { DropOutcome result.shape result.accepted result.taken result.left }
+        ensures looked { All (HasSeenAccepted result.accepted) seats.items }
+    {
+        let (puts, _) = totals(seats.as_slice());
+        let from = self.queue.shape().first_live_place(puts);
+        self.finish(seats, puts, from, left)
     }
 
     // Stops all steps, and reads what is left.
@@ -219,10 +265,8 @@ impl Rail for DropRail {
         ensures refused { IfErr result (λ refused. (refused.rail ≡ self)
             × (refused.seats.items ≡ seats.items)) }
     {
-        let (puts, _) = totals(seats.as_slice());
-        let from = self.shape().first_live_place(puts);
-        match Batch::with_room(alloc, (puts - from) as usize) {
-            Ok(left) => Ok(self.finish(seats, puts, from, left)),
+        match self.room_to_close(alloc, seats.as_slice()) {
+            Ok(left) => Ok(self.close_into(seats, left)),
             Err(_) => Err(Refused { rail: self, seats }),
         }
     }

@@ -5,4 +5,4 @@ mod drop;
 mod looking;
 
 pub use block_looks::{Look, Seen};
-pub use drop::{DropDone, DropRail, DropSeat};
+pub use drop::{DropDone, DropRail, DropSeat, live_number};

@@ -3,4 +3,4 @@
 
 mod settled;
 
-pub use settled::{SettledQueue, close};
+pub use settled::{SettledQueue, close_into, left_number, room_to_close};

@@ -1,18 +1,19 @@
 //! The closing of a queue, and what a closed queue had.
-ghost use Rattle.std.specs.Prelude.{◌≡◌, ◌-◌, ◌^◌, ◌≤◌, [], IfErr, IfOk, IsPermutation, length, map, min};
+ghost use Rattle.std.specs.Prelude.{◌≡◌, ◌-◌, ◌^◌, ◌≤◌, [], IfOk, IsPermutation, length, map, min};
 ghost use Rattle.std.specs.List.{All};
 ghost use Rattle.rail.specs.Items.{IsRising, places};
 ghost use Rattle.rail.specs.Outcome.{IsAccepted, RetryOutcome, numbers_below};
 ghost use Rattle.call_steps.specs.Queue.{IsSeatOf, Seated};
 ghost use Rattle.shared_seats.specs.Seats.{made_by_all, taken_by_all};
+ghost use Rattle.retry_close.specs.Closed.{counted_left};
 ghost use Rattle.retry_close.specs.Settles.{Settles};
 
 use call_laws::CallPhase;
 use call_steps::read_left;
 use cursor_word::Shape;
-use rail::{Batch, Refused};
+use rail::Batch;
 use shared_seats::{SharedQueue, SharedSeat, totals};
-use std::alloc::Global;
+use std::alloc::{AllocError, Global};
 use std::marker::Model;
 use std::snapshot::Snapshot;
 
@@ -52,34 +53,55 @@ impl<P: CallPhase> SettledQueue<P> {
     {
         &self.left
     }
+
+    /// Gives up all but what was left in it.
+    pub fn into_left(self) -> Batch
+        ensures { result.items ≡ self.left }
+    {
+        let SettledQueue { left, .. } = self;
+        left
+    }
 }
 
-/// Closes a queue, with all its seats, where its machine settles. For want of memory it gives both
-/// back.
-pub fn close<P: CallPhase>(
-    queue: SharedQueue<P, ()>,
+/// How many entries the close of a queue lays out, where its seats put and took so many.
+pub fn left_number(puts: u64, takes: u64) -> u64
+    ensures { result ≡ puts - takes }
+{
+    puts.saturating_sub(takes)
+}
+
+/// The memory that the close of a queue with these seats needs.
+pub fn room_to_close<P: CallPhase>(
     alloc: Global,
+    seats: &[SharedSeat<P, ()>],
+) -> Result<Batch, AllocError>
+    ensures { IfOk result
+        (λ left. left ≡ record { items = []; spare = counted_left seats.now }) }
+{
+    let (puts, takes) = totals(seats);
+    Batch::with_room(alloc, left_number(puts, takes) as usize)
+}
+
+/// Closes a queue, with all its seats, where its machine settles. It takes no memory.
+pub fn close_into<P: CallPhase>(
+    queue: SharedQueue<P, ()>,
     seats: Vec<SharedSeat<P, ()>>,
-) -> Result<SettledQueue<P>, Refused<SharedQueue<P, ()>, SharedSeat<P, ()>>>
+    left: Batch,
+) -> SettledQueue<P>
     requires settles { Settles P.Holds }
     requires seats { All (IsSeatOf queue) seats.items }
     requires all { IsPermutation (map (λ (s : Seated P). s.number) seats.items)
         (numbers_below queue.shape.seats) }
-    ensures shape { IfOk result (λ done. done.shape ≡ queue.shape) }
-    ensures accepted { IfOk result
-        (λ done. IsAccepted (made_by_all seats.items) done.accepted) }
-    ensures taken { IfOk result
-        (λ done. IsPermutation (taken_by_all seats.items) done.taken) }
-    ensures order { IfOk result (λ done. IsRising (places done.taken)) }
-    ensures retry { IfOk result (λ done. RetryOutcome done.accepted done.taken done.left) }
-    ensures refused { IfErr result (λ refused. (refused.rail ≡ queue)
-        × (refused.seats.items ≡ seats.items)) }
+    requires empty { left.items ≡ [] }
+    requires room { counted_left seats.items ≤ left.spare }
+    ensures shape { result.shape ≡ queue.shape }
+    ensures accepted { IsAccepted (made_by_all seats.items) result.accepted }
+    ensures taken { IsPermutation (taken_by_all seats.items) result.taken }
+    ensures order { IsRising (places result.taken) }
+    ensures retry { RetryOutcome result.accepted result.taken result.left }
 {
     let (puts, takes) = totals(seats.as_slice());
-    match Batch::with_room(alloc, puts.saturating_sub(takes) as usize) {
-        Ok(left) => Ok(finish(queue, seats, puts, takes, left)),
-        Err(_) => Err(Refused { rail: queue, seats }),
-    }
+    finish(queue, seats, puts, takes, left)
 }
 
 // Stops all steps, and reads what is left.
@@ -106,13 +128,7 @@ fn finish<P: CallPhase>(
     let before = Snapshot::of(&seats);
     let shape = queue.shape();
     let stopped = queue.stop(seats);
-    read_left(
-        &stopped,
-        &shape,
-        takes,
-        puts.saturating_sub(takes),
-        &mut left,
-    );
+    read_left(&stopped, &shape, takes, left_number(puts, takes), &mut left);
     SettledQueue {
         shape,
         accepted: puts,

@@ -1,5 +1,5 @@
 //! The queue.
-ghost use Rattle.std.specs.Prelude.{◌≡◌, ℕ, ◌<◌, List, [], Some, IfErr, IfOk, IsPermutation, false, true, flat_map, length, map};
+ghost use Rattle.std.specs.Prelude.{◌≡◌, ℕ, ◌<◌, ◌≤◌, List, [], Some, IfErr, IfOk, IsPermutation, false, true, flat_map, length, map};
 ghost use Rattle.std.specs.List.{All};
 ghost use Rattle.cursor_word.specs.Cursor.{most_puts};
 ghost use Rattle.rail.specs.Items.{IsRising, places};
@@ -11,11 +11,13 @@ ghost use Rattle.bbq_core.specs.Table.{table};
 ghost use Rattle.bbq_core.specs.declared.phase.Phase.{Phase};
 ghost use Rattle.call_steps.specs.Call.{TookSteps};
 ghost use Rattle.call_steps.specs.Queue.{IsFresh, IsSeatOf, Queue, Seated};
+ghost use Rattle.shared_seats.specs.Seats.{made_by_all, taken_by_all};
+ghost use Rattle.retry_close.specs.Closed.{counted_left};
 
 use bbq_core::{Phase, first_take};
 use cursor_word::Shape;
 use rail::{Batch, Put, Rail, Refused, Take};
-use retry_close::{SettledQueue, close};
+use retry_close::{SettledQueue, close_into, room_to_close};
 use shared_seats::{SharedQueue, SharedSeat};
 use std::alloc::{AllocError, Global};
 use std::marker::Model;
@@ -51,6 +53,22 @@ impl RetryRail {
     {
         let (queue, seats) = SharedQueue::<Phase, ()>::make(alloc, shape)?;
         Ok((RetryRail { queue }, seats))
+    }
+
+    /// Closes the queue, with all its seats. It takes no memory.
+    pub fn close_into(self, seats: Vec<RetrySeat>, left: Batch) -> RetryDone
+        requires seats { All (IsSeatOf self) seats.items }
+        requires all { IsPermutation (map (λ (s : Seated Phase). s.number) seats.items)
+            (numbers_below self.shape.seats) }
+        requires empty { left.items ≡ [] }
+        requires room { counted_left seats.items ≤ left.spare }
+        ensures shape { result.shape ≡ self.shape }
+        ensures accepted { IsAccepted (made_by_all seats.items) result.accepted }
+        ensures taken { IsPermutation (taken_by_all seats.items) result.taken }
+        ensures order { IsRising (places result.taken) }
+        ensures retry { RetryOutcome result.accepted result.taken result.left }
+    {
+        close_into(self.queue, seats, left)
     }
 }
 
@@ -158,12 +176,9 @@ impl Rail for RetryRail {
         ensures refused { IfErr result (λ refused. (refused.rail ≡ self)
             × (refused.seats.items ≡ seats.items)) }
     {
-        match close(self.queue, alloc, seats) {
-            Ok(done) => Ok(done),
-            Err(Refused { rail, seats }) => Err(Refused {
-                rail: RetryRail { queue: rail },
-                seats,
-            }),
+        match room_to_close(alloc, seats.as_slice()) {
+            Ok(left) => Ok(self.close_into(seats, left)),
+            Err(_) => Err(Refused { rail: self, seats }),
         }
     }
 

@@ -1,5 +1,5 @@
 //! The queue.
-ghost use Rattle.std.specs.Prelude.{◌≡◌, ℕ, ◌<◌, ◌==◌, List, [], Some, IfErr, IfOk, IsPermutation, false, true, flat_map, length, map};
+ghost use Rattle.std.specs.Prelude.{◌≡◌, ℕ, ◌<◌, ◌≤◌, ◌==◌, List, [], Some, IfErr, IfOk, IsPermutation, false, true, flat_map, length, map};
 ghost use Rattle.std.specs.List.{All};
 ghost use Rattle.cursor_word.specs.Cursor.{most_puts};
 ghost use Rattle.rail.specs.Items.{IsRising, places};
@@ -11,11 +11,13 @@ ghost use Rattle.sole_core.specs.Table.{consumer, table};
 ghost use Rattle.sole_core.specs.declared.phase.SolePhase.{SolePhase};
 ghost use Rattle.call_steps.specs.Call.{TookSteps};
 ghost use Rattle.call_steps.specs.Queue.{IsFresh, IsSeatOf, Queue, Seated};
+ghost use Rattle.shared_seats.specs.Seats.{made_by_all, taken_by_all};
+ghost use Rattle.retry_close.specs.Closed.{counted_left};
 ghost use Rattle.sole_rail.specs.Consumer.{IsConsumerOf, IsUnmoved};
 
 use cursor_word::Shape;
 use rail::{Batch, Put, Rail, Refused, Take};
-use retry_close::{SettledQueue, close};
+use retry_close::{SettledQueue, close_into, room_to_close};
 use shared_seats::{SharedQueue, SharedSeat};
 use sole_core::{SolePhase, next_cursor, sole_take_at};
 use std::alloc::{AllocError, Global};
@@ -66,6 +68,22 @@ impl SoleRail {
     {
         let (queue, seats) = SharedQueue::<SolePhase, ()>::make(alloc, shape)?;
         Ok((SoleRail { queue }, seats))
+    }
+
+    /// Closes the queue, with all its seats. It takes no memory.
+    pub fn close_into(self, seats: Vec<SoleSeat>, left: Batch) -> SoleDone
+        requires seats { All (IsSeatOf self) seats.items }
+        requires all { IsPermutation (map (λ (s : Seated SolePhase). s.number) seats.items)
+            (numbers_below self.shape.seats) }
+        requires empty { left.items ≡ [] }
+        requires room { counted_left seats.items ≤ left.spare }
+        ensures shape { result.shape ≡ self.shape }
+        ensures accepted { IsAccepted (made_by_all seats.items) result.accepted }
+        ensures taken { IsPermutation (taken_by_all seats.items) result.taken }
+        ensures order { IsRising (places result.taken) }
+        ensures retry { RetryOutcome result.accepted result.taken result.left }
+    {
+        close_into(self.queue, seats, left)
     }
 }
 
@@ -177,12 +195,9 @@ impl Rail for SoleRail {
         ensures refused { IfErr result (λ refused. (refused.rail ≡ self)
             × (refused.seats.items ≡ seats.items)) }
     {
-        match close(self.queue, alloc, seats) {
-            Ok(done) => Ok(done),
-            Err(Refused { rail, seats }) => Err(Refused {
-                rail: SoleRail { queue: rail },
-                seats,
-            }),
+        match room_to_close(alloc, seats.as_slice()) {
+            Ok(left) => Ok(self.close_into(seats, left)),
+            Err(_) => Err(Refused { rail: self, seats }),
         }
     }
 

@@ -13,7 +13,7 @@ pub read_left-requires-clause-places : goal.read_left-requires-clause-places
 read_left-requires-clause-places g c =
     let few = few_made _ _ _ c.requires.settles _ _ _ c.stop-stopped.ensures.stopped in
     let fewer = fewer_taken _ _ _ c.requires.settles _ _ _ c.stop-stopped.ensures.stopped in
-    omega (arith, c.requires.puts, c.requires.takes, c.saturating_sub.ensures, ap place_span c.shape-shape.ensures.shape, ap (λ g. g.size) c.shape-shape.ensures.shape, c.shape-shape.ensures.limits.size_to)
+    omega (arith, c.requires.puts, c.requires.takes, c.left_number.ensures, ap place_span c.shape-shape.ensures.shape, ap (λ g. g.size) c.shape-shape.ensures.shape, c.shape-shape.ensures.limits.size_to)
 
 pub invariant_of-result : goal.invariant_of-result
 invariant_of-result g c =
@@ -41,10 +41,10 @@ returns-clause-retry g c = let seats = c.args.seats.items in let words = c.stop-
     let limits = c.shape-shape.ensures.limits in
     let puts : c.args.puts ≡ length (made_by_all seats) = omega (arith, c.requires.puts, size, limits.size_to) in
     let takes : c.args.takes ≡ length (taken_by_all seats) = omega (arith, c.requires.takes, size, limits.size_to) in
-    let end : c.args.takes + c.saturating_sub.result ≡ length (made_by_all seats) = let e = c.saturating_sub.ensures in omega arith in
+    let end : c.args.takes + c.left_number.result ≡ length (made_by_all seats) = let e = c.left_number.ensures in omega arith in
     let left = c.read_left.ensures.items
-    ∙ (ap (λ items. items ++ left_in c.shape-shape.result words c.args.takes (c.args.takes + c.saturating_sub.result)) c.requires.empty
-    ∙ (ap (λ h. left_in h words c.args.takes (c.args.takes + c.saturating_sub.result)) c.shape-shape.ensures.shape
-    ∙ (ap (λ n. left_in grid words n (c.args.takes + c.saturating_sub.result)) takes ∙ ap (left_in grid words (length (taken_by_all seats))) end))) in
+    ∙ (ap (λ items. items ++ left_in c.shape-shape.result words c.args.takes (c.args.takes + c.left_number.result)) c.requires.empty
+    ∙ (ap (λ h. left_in h words c.args.takes (c.args.takes + c.left_number.result)) c.shape-shape.ensures.shape
+    ∙ (ap (λ n. left_in grid words n (c.args.takes + c.left_number.result)) takes ∙ ap (left_in grid words (length (taken_by_all seats))) end))) in
     subst (λ (xs : List (Seated _)). RetryOutcome (in_order (made_by_all xs)) (first_taken xs) c.read_left.new.left.items) (sym (ap (λ v. v.items) c.of-before.ensures))
     (closed_retry _ _ _ c.requires.settles _ words seats c.stop-stopped.ensures.stopped c.read_left.new.left.items left)

@@ -4,7 +4,7 @@ use Rattle.std.proofs.lemmas.List.FromFn.{length-range_with_len}
 use Rattle.std.proofs.lemmas.List.Sorted.{length_permutation}
 use Rattle.rail.specs.Outcome.{numbers_below}
 use Rattle.call_steps.specs.Queue.{Seated}
-use Rattle.retry_close.proofs.settled.close.Goals as goal
+use Rattle.retry_close.proofs.settled.close_into.Goals as goal
 
 pub finish-requires-clause-all : goal.finish-requires-clause-all
 finish-requires-clause-all g c = let n = c.args.queue.shape.seats in

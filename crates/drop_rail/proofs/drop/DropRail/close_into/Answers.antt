@@ -6,7 +6,7 @@ use Rattle.rail.specs.Outcome.{numbers_below}
 use Rattle.drop_core.specs.declared.phase.DropPhase.{DropPhase}
 use Rattle.call_steps.specs.Queue.{SeatedWith}
 use Rattle.block_looks.specs.declared.looks.Looks.{Looks}
-use Rattle.drop_rail.proofs.drop.DropRailRail.close.Goals as goal
+use Rattle.drop_rail.proofs.drop.DropRail.close_into.Goals as goal
 
 pub finish-requires-clause-all : goal.finish-requires-clause-all
 finish-requires-clause-all c = let n = c.args.self.shape.seats in
