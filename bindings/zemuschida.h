@@ -41,6 +41,7 @@ extern "C" {
 #define ZEM_UNFINISHED 3u /* another call was in the way: block, first, second */
 #define ZEM_MOVED 4u      /* another call was in the way: first, second */
 #define ZEM_OVERRUN 5u    /* take of a ring: place, first. What the call read was overwritten */
+#define ZEM_UNOPENED 6u   /* look at a block of a ring: no put has come to it */
 /* Refusals: nothing was done. */
 #define ZEM_CLOSED 16u     /* the seat is {0} */
 #define ZEM_WIDTH 17u      /* not as many words as the queue's entries have */
@@ -51,6 +52,7 @@ extern "C" {
 #define ZEM_BAD_WIDTH 22u  /* an entry has 1 to 8 words */
 #define ZEM_BAD_SEATS 23u  /* a queue has 1 to 1024 seats; a log's consumer has one of them */
 #define ZEM_ROOM 24u       /* zem_ring_view: a view has more items, or more gaps, than there is room */
+#define ZEM_BAD_BLOCK 25u  /* look at a block: the first has the number of how many blocks there are */
 
 /* Hold no two seats of different threads on one cache line. */
 typedef struct zem_seat {
@@ -99,6 +101,13 @@ typedef struct zem_view {
     uint64_t items, gaps;
 } zem_view;
 
+/* What a look at a block found: how many entries it has, where they are all there, and how far they
+   stand and are given out to puts. A number that a look doesn't have is 0. */
+typedef struct zem_look {
+    uint64_t count;
+    zem_cursor committed, allocated;
+} zem_look;
+
 /* Makes a queue with a seat for each of the n handles. A seat that a handle had is given up. */
 uint32_t zem_make(uint64_t blocks, uint64_t size, uint64_t width, zem_seat *seats, size_t n);
 /* Puts an entry of width words. A refusal leaves *answer as it was. */
@@ -122,6 +131,15 @@ uint32_t zem_ring_view(zem_ring_seat *seat, zem_item *items, size_t items_room, 
                        size_t gaps_room, zem_view *view);
 /* Looks how far the queue has come: the cursor that gives out entries to puts in its newest block. */
 uint32_t zem_ring_look_head(zem_ring_seat *seat, zem_cursor *newest);
+/* Looks at a block: ZEM_OK with the count of its entries, which are all there; ZEM_UNOPENED with
+   committed; or ZEM_UNFINISHED with both cursors, where calls are under way in it, or where another
+   block has its memory by now. */
+uint32_t zem_ring_look_block(zem_ring_seat *seat, uint64_t block, zem_look *look);
+/* Looks at a block, and then at its entry of an offset. Beside what a look at a block answers: ZEM_OK
+   with the words of the entry; ZEM_EMPTY where a whole block has none there; ZEM_OVERRUN where the
+   block was overwritten while it was read: allocated tells by which, and the words hold any numbers. */
+uint32_t zem_ring_look_entry(zem_ring_seat *seat, uint64_t block, uint64_t offset, uint64_t *out,
+                             size_t width, zem_look *look);
 void zem_ring_free(zem_ring_seat *seat);
 
 /* The same for a log, which is made with its consumer and n seats that put. */
@@ -141,6 +159,7 @@ static inline const char *zem_text(uint32_t code) {
     case ZEM_UNFINISHED: return "another call isn't finished";
     case ZEM_MOVED: return "another call was in the way";
     case ZEM_OVERRUN: return "the entry was overwritten";
+    case ZEM_UNOPENED: return "the block isn't opened";
     case ZEM_CLOSED: return "there is no seat";
     case ZEM_WIDTH: return "an entry has another number of words";
     case ZEM_SPENT: return "the seat has put as many entries as it may";
@@ -150,6 +169,7 @@ static inline const char *zem_text(uint32_t code) {
     case ZEM_BAD_WIDTH: return "an entry has 1 to 8 words";
     case ZEM_BAD_SEATS: return "a queue has 1 to 1024 seats";
     case ZEM_ROOM: return "a view has no room";
+    case ZEM_BAD_BLOCK: return "there is no block of this number";
     default: return "no code of this library";
     }
 }

@@ -110,6 +110,41 @@ static int viewing(void) {
     return 0;
 }
 
+static int looking(void) {
+    zem_ring_seat seats[2] = {{0}};
+    uint64_t entry[2] = {0}, out[2] = {7, 7};
+    zem_answer answer;
+    zem_look look = {7, {7, 7}, {7, 7}};
+    WANT(zem_ring_look_block(&seats[0], 2, &look) == ZEM_CLOSED);
+    WANT(zem_ring_look_entry(&seats[0], 2, 0, out, 2, &look) == ZEM_CLOSED && look.count == 7);
+    WANT(zem_ring_make(2, 2, 2, seats, 2) == ZEM_OK);
+    WANT(zem_ring_look_block(&seats[0], 1, &look) == ZEM_BAD_BLOCK);
+    WANT(zem_ring_look_entry(&seats[0], 1, 0, out, 2, &look) == ZEM_BAD_BLOCK);
+    WANT(zem_ring_look_entry(&seats[0], 2, 0, out, 1, &look) == ZEM_WIDTH);
+    WANT(look.count == 7 && look.committed.block == 7 && out[0] == 7);
+    for (uint64_t i = 0; i < 3; i++) {
+        entry[0] = i, entry[1] = 2 * i;
+        WANT(zem_ring_put(&seats[0], entry, 2, &answer) == ZEM_OK);
+    }
+    WANT(zem_ring_look_block(&seats[1], 2, &look) == ZEM_OK && look.count == 2);
+    WANT(zem_ring_look_block(&seats[1], 3, &look) == ZEM_OK && look.count == 1);
+    WANT(look.committed.block == 3 && look.committed.offset == 1 && look.allocated.offset == 1);
+    WANT(zem_ring_look_block(&seats[1], 4, &look) == ZEM_UNOPENED && look.count == 0);
+    WANT(look.committed.block == 2 && look.allocated.block == 0);
+    WANT(zem_ring_look_entry(&seats[1], 3, 1, out, 2, &look) == ZEM_EMPTY && look.count == 1);
+    WANT(zem_ring_look_entry(&seats[1], 4, 0, out, 2, &look) == ZEM_UNOPENED && out[0] == 7);
+    WANT(zem_ring_look_entry(&seats[1], 3, 0, out, 2, &look) == ZEM_OK && look.count == 1);
+    WANT(out[0] == 2 && out[1] == 4);
+    WANT(zem_ring_take(&seats[0], out, 2, &answer) == ZEM_OK && answer.place == 0);
+    for (uint64_t i = 3; i < 100; i++) {
+        WANT(zem_ring_put(&seats[0], entry, 2, &answer) == ZEM_OK);
+    }
+    WANT(zem_ring_look_block(&seats[1], 2, &look) == ZEM_UNFINISHED && look.committed.block == 50);
+    WANT(zem_ring_look_entry(&seats[1], 2, 0, out, 2, &look) == ZEM_UNFINISHED);
+    zem_ring_free(&seats[0]), zem_ring_free(&seats[1]);
+    return 0;
+}
+
 static int logging(void) {
     zem_log_consumer consumer = {0};
     zem_log_seat seats[2] = {{0}};
@@ -140,4 +175,4 @@ static int logging(void) {
     return 0;
 }
 
-int main(void) { return refusals() || refusing() || overwriting() || viewing() || logging(); }
+int main(void) { return refusals() || refusing() || overwriting() || viewing() || looking() || logging(); }

@@ -20,10 +20,12 @@
 #![deny(unsafe_op_in_unsafe_fn, missing_docs)]
 
 mod errors;
+mod look;
 mod sys;
 mod view;
 
 pub use errors::{Busy, Cursor, MakeError, PutError, TakeError, ViewError};
+pub use look::{BlockLook, LookError};
 use sys::Answer;
 use view::Room;
 pub use view::{Gap, View};
@@ -303,6 +305,49 @@ impl<const W: usize> RingSeat<W> {
                 filled => return filled.map_err(|_| ViewError),
             }
         }
+    }
+
+    /// How far the queue has come: the cursor that gives out entries to puts in its newest block.
+    ///
+    /// ```
+    /// let mut seats = zemuschida::ring::<1>(2, 2, 1)?;
+    /// seats[0].put(&[7])?;
+    /// assert_eq!(seats[0].look_head(), zemuschida::Cursor { block: 2, offset: 1 });
+    /// # Ok::<(), Box<dyn std::error::Error>>(())
+    /// ```
+    pub fn look_head(&mut self) -> Cursor {
+        look::head(&mut self.raw)
+    }
+
+    /// Whether the entries of a block are all there, and how many. It takes nothing. The first block
+    /// has the number of how many blocks the queue has.
+    ///
+    /// ```
+    /// let mut seats = zemuschida::ring::<1>(2, 2, 1)?;
+    /// seats[0].put(&[7])?;
+    /// let found = seats[0].look_block(2)?;
+    /// assert!(matches!(found, zemuschida::BlockLook::Whole { count: 1, .. }));
+    /// let found = seats[0].look_block(3)?;
+    /// assert!(matches!(found, zemuschida::BlockLook::Unopened { .. }));
+    /// assert_eq!(seats[0].look_block(1), Err(zemuschida::LookError::Block));
+    /// # Ok::<(), Box<dyn std::error::Error>>(())
+    /// ```
+    pub fn look_block(&mut self, block: u64) -> Result<BlockLook, LookError> {
+        look::block(&mut self.raw, block)
+    }
+
+    /// The words of an entry, which it looks at after its block. It takes nothing.
+    ///
+    /// ```
+    /// let mut seats = zemuschida::ring::<1>(2, 2, 1)?;
+    /// seats[0].put(&[7])?;
+    /// assert_eq!(seats[0].look_entry(zemuschida::Cursor { block: 2, offset: 0 }), Ok([7]));
+    /// assert!(seats[0].look_entry(zemuschida::Cursor { block: 2, offset: 1 }).is_err());
+    /// assert_eq!(seats[0].take(), Ok((0, [7])));
+    /// # Ok::<(), Box<dyn std::error::Error>>(())
+    /// ```
+    pub fn look_entry(&mut self, at: Cursor) -> Result<[u64; W], LookError> {
+        look::entry(&mut self.raw, at)
     }
 }
 

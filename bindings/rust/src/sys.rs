@@ -8,12 +8,14 @@ pub const EMPTY: u32 = 2;
 pub const UNFINISHED: u32 = 3;
 pub const MOVED: u32 = 4;
 pub const OVERRUN: u32 = 5;
+pub const UNOPENED: u32 = 6;
 pub const SPENT: u32 = 18;
 pub const BAD_BLOCKS: u32 = 20;
 pub const BAD_SIZE: u32 = 21;
 pub const BAD_WIDTH: u32 = 22;
 pub const BAD_SEATS: u32 = 23;
 pub const ROOM: u32 = 24;
+pub const BAD_BLOCK: u32 = 25;
 /// One more than a queue may have.
 pub const TOO_MANY_SEATS: usize = 1025;
 
@@ -69,6 +71,14 @@ pub struct View {
     pub gaps: u64,
 }
 
+#[repr(C)]
+#[derive(Clone, Copy, Default)]
+pub struct Look {
+    pub count: u64,
+    pub committed: Cursor,
+    pub allocated: Cursor,
+}
+
 pub type Make = unsafe extern "C" fn(u64, u64, u64, *mut Seat, usize) -> u32;
 pub type Put = unsafe extern "C" fn(*mut Seat, *const u64, usize, *mut Answer) -> u32;
 pub type Take = unsafe extern "C" fn(*mut Seat, *mut u64, usize, *mut Answer) -> u32;
@@ -93,6 +103,16 @@ extern "C" {
         gaps: *mut Gap,
         gaps_room: usize,
         view: *mut View,
+    ) -> u32;
+    pub fn zem_ring_look_head(seat: *mut Seat, newest: *mut Cursor) -> u32;
+    pub fn zem_ring_look_block(seat: *mut Seat, block: u64, look: *mut Look) -> u32;
+    pub fn zem_ring_look_entry(
+        seat: *mut Seat,
+        block: u64,
+        offset: u64,
+        out: *mut u64,
+        width: usize,
+        look: *mut Look,
     ) -> u32;
     pub fn zem_ring_free(seat: *mut Seat);
     pub fn zem_log_make(

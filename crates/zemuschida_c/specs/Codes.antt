@@ -28,6 +28,9 @@ moved = 4
 abbrev pub overrun : ℕ
 overrun = 5
 
+abbrev pub unopened : ℕ
+unopened = 6
+
 -- refusals, which do nothing
 abbrev pub no_seat : ℕ
 no_seat = 16
@@ -55,6 +58,9 @@ bad_seats = 23
 
 abbrev pub no_room : ℕ
 no_room = 24
+
+abbrev pub bad_block : ℕ
+bad_block = 25
 
 abbrev pub shown : Cursor → ZemCursor
 shown c = record { block = c.block; offset = c.offset }

@@ -1,7 +1,9 @@
 //! What a call answers, as C reads it.
 ghost use Rattle.std.specs.Prelude.{◌≡◌};
 ghost use Rattle.zemuschida_c.specs.Codes.{nowhere, put_code, put_numbers, shown, take_code, take_numbers, why_code, why_numbers};
+ghost use Rattle.zemuschida_c.specs.Looked.{look_code, look_numbers};
 
+use block_looks::Look;
 use cursor_word::Cursor;
 use rail::{Put, Take, Why};
 
@@ -17,6 +19,8 @@ pub const UNFINISHED: u32 = 3;
 pub const MOVED: u32 = 4;
 
 pub const OVERRUN: u32 = 5;
+
+pub const UNOPENED: u32 = 6;
 
 pub const CLOSED: u32 = 16;
 
@@ -36,6 +40,8 @@ pub const BAD_SEATS: u32 = 23;
 
 pub const ROOM: u32 = 24;
 
+pub const BAD_BLOCK: u32 = 25;
+
 /// A block number and an offset in it.
 #[repr(C)]
 #[derive(Clone, Copy)]
@@ -52,6 +58,15 @@ pub struct ZemAnswer {
     pub block: u64,
     pub first: ZemCursor,
     pub second: ZemCursor,
+}
+
+/// What a look at a block found: how many entries it has, where they are all there, and its cursors.
+#[repr(C)]
+#[derive(Clone, Copy)]
+pub struct ZemLook {
+    pub count: u64,
+    pub committed: ZemCursor,
+    pub allocated: ZemCursor,
 }
 
 const NOWHERE: ZemCursor = ZemCursor {
@@ -72,6 +87,45 @@ pub(crate) fn show(cursor: Cursor) -> ZemCursor
     ZemCursor {
         block: cursor.block,
         offset: cursor.offset,
+    }
+}
+
+pub(crate) fn give_look(found: &Look, look: &mut ZemLook) -> u32
+    ensures code { result ≡ look_code found.now }
+    ensures numbers { look.new ≡ look_numbers found.now }
+{
+    match *found {
+        Look::Unopened { committed } => {
+            *look = ZemLook {
+                count: 0,
+                committed: show(committed),
+                allocated: NOWHERE,
+            };
+            UNOPENED
+        }
+        Look::Whole {
+            count,
+            committed,
+            allocated,
+        } => {
+            *look = ZemLook {
+                count,
+                committed: show(committed),
+                allocated: show(allocated),
+            };
+            OK
+        }
+        Look::Gap {
+            committed,
+            allocated,
+        } => {
+            *look = ZemLook {
+                count: 0,
+                committed: show(committed),
+                allocated: show(allocated),
+            };
+            UNFINISHED
+        }
     }
 }
 

@@ -8,11 +8,15 @@ ghost use Rattle.block_looks.specs.declared.look.LookPhase.TheVariants as phase;
 ghost use Rattle.drop_rail.specs.Looking.{HasLooked};
 ghost use Rattle.flight_view.specs.Views.{HasWalked};
 ghost use Rattle.zemuschida_c.specs.Calls.{GivesPut, GivesTake};
-ghost use Rattle.zemuschida_c.specs.Codes.{spent, wrong_width};
+ghost use Rattle.zemuschida_c.specs.Codes.{bad_block, spent, wrong_width};
+ghost use Rattle.zemuschida_c.specs.Looked.{HasLookedAtBlock, HasLookedAtEntry};
 
-use crate::answer::{SPENT, WIDTH, ZemAnswer, give_put, give_take};
+use crate::answer::{
+    BAD_BLOCK, EMPTY, OK, OVERRUN, SPENT, WIDTH, ZemAnswer, ZemLook, give_look, give_put,
+    give_take, show,
+};
 use cursor_word::Cursor;
-use drop_rail::DropRail;
+use drop_rail::{DropRail, Look, Seen};
 use flight_view::{View, flight_view};
 use rail::Rail;
 use std::alloc::{AllocError, Global};
@@ -126,5 +130,61 @@ impl OwnSeat<DropRail> {
             (slice_index self.new.seat.memory.look_trail 0) result }
     {
         self.rail.look_head(&mut self.seat)
+    }
+
+    /// Looks at a block.
+    pub(crate) fn look_block(&mut self, block: u64, look: &mut ZemLook) -> u32
+        ensures rail { self.new.rail ≡ self.old.rail }
+        ensures block { block < self.old.rail.shape.blocks
+            → (result ≡ bad_block) × (self.new ≡ self.old) × (look.new ≡ look.old) }
+        ensures look { self.old.rail.shape.blocks ≤ block
+            → HasLookedAtBlock self.old self.new block result look.new }
+    {
+        if block < self.rail.shape().blocks() {
+            return BAD_BLOCK;
+        }
+        let found = self.rail.look_block(&mut self.seat, block);
+        give_look(&found, look)
+    }
+
+    /// Looks at a block, and then at one of its entries.
+    pub(crate) fn look_entry(&mut self, at: Cursor, out: &mut [u64], look: &mut ZemLook) -> u32
+        ensures rail { self.new.rail ≡ self.old.rail }
+        ensures width { length out.old ≢ self.old.rail.shape.width → (result ≡ wrong_width)
+            × (self.new ≡ self.old) × (out.new ≡ out.old) × (look.new ≡ look.old) }
+        ensures block { length out.old ≡ self.old.rail.shape.width
+            → at.block < self.old.rail.shape.blocks → (result ≡ bad_block)
+            × (self.new ≡ self.old) × (out.new ≡ out.old) × (look.new ≡ look.old) }
+        ensures look { length out.old ≡ self.old.rail.shape.width
+            → self.old.rail.shape.blocks ≤ at.block
+            → HasLookedAtEntry self.old self.new at out.old out.new result look.new }
+    {
+        let shape = self.rail.shape();
+        if out.len() as u64 != shape.width() {
+            return WIDTH;
+        }
+        if at.block < shape.blocks() {
+            return BAD_BLOCK;
+        }
+        let found = self.rail.look_block(&mut self.seat, at.block);
+        let code = give_look(&found, look);
+        let Look::Whole {
+            count,
+            committed,
+            ..
+        } = found
+        else {
+            return code;
+        };
+        if committed.block != at.block || at.offset >= count {
+            return EMPTY;
+        }
+        match self.rail.look_entry(&mut self.seat, at, out) {
+            Seen::Whole => OK,
+            Seen::Reused { now } => {
+                look.allocated = show(now);
+                OVERRUN
+            }
+        }
     }
 }
