@@ -1,4 +1,5 @@
 pub mod Spans
+pub mod Shared
 pub mod Trace
 pub mod Worked
 pub mod Ended

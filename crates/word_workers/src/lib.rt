@@ -10,6 +10,7 @@ mod ended;
 mod gate;
 mod merging;
 mod parts;
+mod shared;
 mod turns;
 mod worker;
 

@@ -7,11 +7,13 @@ ghost use Rattle.span_recorder.specs.Gain.{GainAlike};
 ghost use Rattle.span_words.specs.Span.{duration};
 ghost use Rattle.word_text.specs.Counts.{add_all, total};
 ghost use Rattle.word_text.specs.Pieces.{LiesIn, plan_bytes};
+ghost use Rattle.word_workers.specs.Shared.{IsShared};
 ghost use Rattle.word_workers.specs.Spans.{AllLieIn, counts_at, piece_at, plan_words, words_at};
 ghost use Rattle.word_workers.specs.Worked.{NotesPiece, Worked};
 
 use crate::drawn::Drawn;
 use crate::gate::Gate;
+use crate::shared::{Own, Shared};
 use claim_table::{Claim, ClaimSeat};
 use flow_io::Hand;
 use rail::{Batch, Rail};
@@ -71,9 +73,15 @@ pub fn run_worker<R: Rail, H: Hand, G: Gate>(
     ensures takes { IfOk result (λ done. (q : R) → R.TakesFrom q seat → R.TakesFrom q done.seat) }
     ensures number { IfOk result (λ done. R.number_of done.seat ≡ R.number_of seat) }
 {
-    let done = work_off(
-        rt, alloc, worker, plan, texts, rail, seat, claim, claim_seat, hand, gate,
-    );
+    let shared = Shared {
+        plan,
+        texts,
+        rail,
+        claim,
+        gate,
+    };
+    let own = Own { worker, seat, hand };
+    let done = work_off(rt, alloc, &shared, own, claim_seat);
     claim.end(claim_seat);
     done
 }
@@ -82,116 +90,131 @@ pub fn run_worker<R: Rail, H: Hand, G: Gate>(
 fn work_off<R: Rail, H: Hand, G: Gate>(
     rt: &impl Wait,
     alloc: Global,
-    worker: u64,
-    plan: &Plan,
-    texts: &[Text],
-    rail: &R,
-    seat: R::Seat,
-    claim: &Claim,
+    shared: &Shared<'_, R, G>,
+    own: Own<R::Seat, H>,
     claim_seat: &mut ClaimSeat,
-    hand: H,
-    gate: &G,
 ) -> Result<WorkerDone<R>, AllocError>
-    requires worker { worker < MOST_WORKERS }
-    requires puts { R.PutsInto rail.now seat }
-    requires takes { R.TakesFrom rail.now seat }
-    requires width { (R.shape_of rail.now).width ≡ SPAN_WORDS }
-    requires room { length (R.made seat) + length plan.now < most_puts (R.shape_of rail.now) }
-    requires inside { AllLieIn texts.now plan.now }
-    requires words { length (plan_words plan.now texts.now) < 2 ^ 63 }
-    requires fresh { IsFresh claim.now claim_seat.old }
-    requires pieces { claim.now.shape.pieces ≡ length plan.now }
+    requires shared { IsShared R.shape_of shared.now }
+    requires worker { own.worker < MOST_WORKERS }
+    requires puts { R.PutsInto shared.now.rail.now own.seat }
+    requires takes { R.TakesFrom shared.now.rail.now own.seat }
+    requires room { length (R.made own.seat) + length shared.now.plan.now
+        < most_puts (R.shape_of shared.now.rail.now) }
+    requires fresh { IsFresh shared.now.claim.now claim_seat.old }
     ensures same { claim_seat.new.of ≡ claim_seat.old.of }
     ensures running { claim_seat.new.ended ≡ false }
     ensures stopped { OnOk result (claim_seat.new.stopped ≡ true) }
     ensures drawn { IfOk result (λ done. done.drawn ≡ claim_seat.new.drawn) }
     ensures rising { IfOk result (λ done. IsRising done.drawn) }
-    ensures within { IfOk result (λ done. All (λ n. n < length plan.now) done.drawn) }
+    ensures within { IfOk result (λ done. All (λ n. n < length shared.now.plan.now) done.drawn) }
     ensures counts { IfOk result (λ done. done.counts
-        ≡ counts_at plan.now texts.now done.drawn) }
-    ensures spans { IfOk result (λ done. Worked plan.now texts.now
-        (H.ticks hand) worker done.drawn (R.made seat) (R.made done.seat)) }
+        ≡ counts_at shared.now.plan.now shared.now.texts.now done.drawn) }
+    ensures spans { IfOk result (λ done. Worked shared.now.plan.now shared.now.texts.now
+        (H.ticks own.hand) own.worker done.drawn (R.made own.seat) (R.made done.seat)) }
     ensures taken { IfOk result (λ done.
-        GainAlike (R.taken seat) (R.taken done.seat) [] done.batch.items) }
-    ensures drops { R.DROPS ≡ true → IfOk result (λ done. R.taken done.seat ≡ R.taken seat) }
-    ensures puts { IfOk result (λ done. (q : R) → R.PutsInto q seat → R.PutsInto q done.seat) }
-    ensures takes { IfOk result (λ done. (q : R) → R.TakesFrom q seat → R.TakesFrom q done.seat) }
-    ensures number { IfOk result (λ done. R.number_of done.seat ≡ R.number_of seat) }
+        GainAlike (R.taken own.seat) (R.taken done.seat) [] done.batch.items) }
+    ensures drops { R.DROPS ≡ true → IfOk result (λ done. R.taken done.seat ≡ R.taken own.seat) }
+    ensures puts { IfOk result (λ done. (q : R)
+        → R.PutsInto q own.seat → R.PutsInto q done.seat) }
+    ensures takes { IfOk result (λ done. (q : R)
+        → R.TakesFrom q own.seat → R.TakesFrom q done.seat) }
+    ensures number { IfOk result (λ done. R.number_of done.seat ≡ R.number_of own.seat) }
 {
-    let mut hand = hand;
-    let mut done = WorkerDone {
+    let Own { worker, seat, hand } = own;
+    let done = WorkerDone {
         counts: Counts::new(alloc),
         batch: Batch::new(alloc),
         drawn: Drawn::new(alloc),
         seat,
     };
-    let mut words = 0;
-    let first = hand.now();
-    gate.arrive(worker);
-    while let Some(number) = claim.claim(claim_seat) {
-        words = count_noted(
-            rt, alloc, worker, plan, texts, rail, number, words, &mut done, &mut hand,
-        )?;
+    let mut counting = Counting {
+        done,
+        hand,
+        words: 0,
+    };
+    let first = counting.hand.now();
+    shared.gate.arrive(worker);
+    while let Some(number) = shared.claim.claim(claim_seat) {
+        count_noted(rt, alloc, shared, worker, number, &mut counting)?;
     }
-    let last = hand.now();
-    let own = SpanEvent {
+    let last = counting.hand.now();
+    let own_span = SpanEvent {
         kind: SpanKind::Worker,
         tid: worker + 1,
         ts: first,
         dur: elapsed(first, last),
         file: 0,
-        piece: done.drawn.numbers().len() as u64,
-        words,
+        piece: counting.done.drawn.numbers().len() as u64,
+        words: counting.words,
         depth: 0,
-        total: words,
+        total: counting.words,
     };
-    note_span(rt, alloc, rail, &mut done.seat, &mut done.batch, &own)?;
+    let mut done = counting.done;
+    note_span(
+        rt,
+        alloc,
+        shared.rail,
+        &mut done.seat,
+        &mut done.batch,
+        &own_span,
+    )?;
     Ok(done)
 }
 
-// Counts a piece between two readings of the clock, and notes its span. It is given how many words
-// the worker counted before, and answers how many it has counted now.
-fn count_noted<R: Rail, H: Hand>(
+// What a worker has done between two pieces: what it hands back, its hand of the clock, and how many
+// words it has counted.
+#[derive(Drop)]
+struct Counting<R: Rail, H: Hand> {
+    done: WorkerDone<R>,
+    hand: H,
+    words: u64,
+}
+
+// Counts a piece between two readings of the clock, and notes its span.
+fn count_noted<R: Rail, H: Hand, G: Gate>(
     rt: &impl Wait,
     alloc: Global,
+    shared: &Shared<'_, R, G>,
     worker: u64,
-    plan: &Plan,
-    texts: &[Text],
-    rail: &R,
     number: u64,
-    before: u64,
-    done: &mut WorkerDone<R>,
-    hand: &mut H,
-) -> Result<u64, AllocError>
+    counting: &mut Counting<R, H>,
+) -> Result<(), AllocError>
+    requires shared { IsShared R.shape_of shared.now }
     requires worker { worker < MOST_WORKERS }
-    requires puts { R.PutsInto rail.now done.old.seat }
-    requires takes { R.TakesFrom rail.now done.old.seat }
-    requires width { (R.shape_of rail.now).width ≡ SPAN_WORDS }
-    requires room { length (R.made done.old.seat) < most_puts (R.shape_of rail.now) }
-    requires inside { AllLieIn texts.now plan.now }
-    requires number { number < length plan.now }
-    requires rising { All (λ n. n < number) done.old.drawn }
-    requires before { total done.old.counts ≡ before }
-    requires words { before + length (words_at plan.now texts.now number) < 2 ^ 63 }
-    ensures counts { OnOk result
-        (done.new.counts ≡ add_all done.old.counts (words_at plan.now texts.now number)) }
-    ensures answer { IfOk result (λ n. n ≡ before + length (words_at plan.now texts.now number)) }
-    ensures drawn { OnOk result (done.new.drawn ≡ done.old.drawn ++ number ∷ []) }
-    ensures span { OnOk result (NotesPiece plan.now texts.now worker number
-        (before + length (words_at plan.now texts.now number))
-        (H.ticks hand.old) (H.ticks hand.new) (R.made done.old.seat) (R.made done.new.seat)) }
-    ensures taken { GainAlike (R.taken done.old.seat) (R.taken done.new.seat)
-        done.old.batch.items done.new.batch.items }
-    ensures drops { R.DROPS ≡ true → R.taken done.new.seat ≡ R.taken done.old.seat }
-    ensures puts { (q : R) → R.PutsInto q done.old.seat → R.PutsInto q done.new.seat }
-    ensures takes { (q : R) → R.TakesFrom q done.old.seat → R.TakesFrom q done.new.seat }
-    ensures seat_number { R.number_of done.new.seat ≡ R.number_of done.old.seat }
+    requires puts { R.PutsInto shared.now.rail.now counting.old.done.seat }
+    requires takes { R.TakesFrom shared.now.rail.now counting.old.done.seat }
+    requires room { length (R.made counting.old.done.seat)
+        < most_puts (R.shape_of shared.now.rail.now) }
+    requires number { number < length shared.now.plan.now }
+    requires rising { All (λ n. n < number) counting.old.done.drawn }
+    requires before { total counting.old.done.counts ≡ counting.old.words }
+    requires words { counting.old.words
+        + length (words_at shared.now.plan.now shared.now.texts.now number) < 2 ^ 63 }
+    ensures counts { OnOk result (counting.new.done.counts ≡ add_all counting.old.done.counts
+        (words_at shared.now.plan.now shared.now.texts.now number)) }
+    ensures words { OnOk result (counting.new.words ≡ counting.old.words
+        + length (words_at shared.now.plan.now shared.now.texts.now number)) }
+    ensures drawn { OnOk result
+        (counting.new.done.drawn ≡ counting.old.done.drawn ++ number ∷ []) }
+    ensures span { OnOk result (NotesPiece shared.now.plan.now shared.now.texts.now worker number
+        counting.new.words (H.ticks counting.old.hand) (H.ticks counting.new.hand)
+        (R.made counting.old.done.seat) (R.made counting.new.done.seat)) }
+    ensures taken { GainAlike (R.taken counting.old.done.seat) (R.taken counting.new.done.seat)
+        counting.old.done.batch.items counting.new.done.batch.items }
+    ensures drops { R.DROPS ≡ true
+        → R.taken counting.new.done.seat ≡ R.taken counting.old.done.seat }
+    ensures puts { (q : R)
+        → R.PutsInto q counting.old.done.seat → R.PutsInto q counting.new.done.seat }
+    ensures takes { (q : R)
+        → R.TakesFrom q counting.old.done.seat → R.TakesFrom q counting.new.done.seat }
+    ensures seat_number { R.number_of counting.new.done.seat
+        ≡ R.number_of counting.old.done.seat }
 {
-    let (file, bytes) = piece_at(plan, texts, number);
-    let start = hand.now();
-    let words = count_piece(alloc, &mut done.counts, bytes)?;
-    let end = hand.now();
-    let total = before + words;
+    let (file, bytes) = piece_at(shared.plan, shared.texts, number);
+    let start = counting.hand.now();
+    let words = count_piece(alloc, &mut counting.done.counts, bytes)?;
+    let end = counting.hand.now();
+    counting.words += words;
     let event = SpanEvent {
         kind: SpanKind::Piece,
         tid: worker + 1,
@@ -201,11 +224,18 @@ fn count_noted<R: Rail, H: Hand>(
         piece: number,
         words,
         depth: 1,
-        total,
+        total: counting.words,
     };
-    note_span(rt, alloc, rail, &mut done.seat, &mut done.batch, &event)?;
-    done.drawn.push(number)?;
-    Ok(total)
+    let done = &mut counting.done;
+    note_span(
+        rt,
+        alloc,
+        shared.rail,
+        &mut done.seat,
+        &mut done.batch,
+        &event,
+    )?;
+    done.drawn.push(number)
 }
 
 // How long it was between two readings, 0 where the clock ran backwards.

@@ -21,7 +21,7 @@ loop-number-init g c =
       unstopped = c.requires.fresh.2;
       drawn = none ∙ sym c.requires.fresh.1;
       rising = subst IsRising (sym none) tt;
-      below = subst (All (λ n. n < length c.args.plan.now)) (sym none) (All-nil _);
+      below = subst (All (λ n. n < length c.args.shared.now.plan.now)) (sym none) (All-nil _);
       count = count_none _ _ _ _ none c.new.ensures.none;
       counting = counting_none _ _ _ _ _ _ _ _ none c.now-first.ensures.ticks c.now-first.ensures.most;
       made = omega arith;
@@ -36,13 +36,13 @@ pub loop-number-preserved : goal.loop-number-preserved
 loop-number-preserved g c =
     let i = c.loop-number.invariant in
     let some = c.in-Some.ensures.drawn in
-    let ok = c.in_ok-words.ensures in
-    let below : c.in-Some.number < length c.args.plan.now = search rules in
+    let ok = c.in_ok-count_noted.ensures in
+    let below : c.in-Some.number < length c.args.shared.now.plan.now = search rules in
     let above = above_drawn _ _ _ _ i.drawn (ap (λ s. s.drawn) some.1) c.in-Some.ensures.rising in
     let longer = longer_by_one _ _ _ ok.span.gains in
     let made = i.made in
-    let len = ap (λ (t : List ℕ). length t) ok.drawn ∙ length-append c.loop-number.done.drawn (c.in-Some.number ∷ []) in
-    let counted = count_more _ _ _ _ _ _ _ _ _ i.count ok.counts ok.answer ok.drawn in
+    let len = ap (λ (t : List ℕ). length t) ok.drawn ∙ length-append c.loop-number.counting.done.drawn (c.in-Some.number ∷ []) in
+    let counted = count_more _ _ _ _ _ _ _ _ _ i.count ok.counts ok.words ok.drawn in
     record {
       of = search rules;
       running = search rules;
@@ -51,7 +51,7 @@ loop-number-preserved g c =
       rising = subst IsRising (sym ok.drawn) (rising_push _ _ i.rising above);
       below = below_more _ _ _ _ i.below below ok.drawn;
       count = counted;
-      counting = counting_more _ _ _ _ _ _ _ _ _ _ _ _ _ _ i.counting ok.span (sym ok.answer ∙ counted.words_are) ok.drawn;
+      counting = counting_more _ _ _ _ _ _ _ _ _ _ _ _ _ _ i.counting ok.span counted.words_are ok.drawn;
       made = omega arith;
       taken = gain_twice _ _ _ _ _ _ i.taken c.count_noted.ensures.taken;
       drops = λ d. c.count_noted.ensures.drops d ∙ i.drops d;
@@ -63,12 +63,12 @@ loop-number-preserved g c =
 pub loop-number-smaller : goal.loop-number-smaller
 loop-number-smaller g c =
     let i = c.loop-number.invariant in
-    let ok = c.in_ok-words.ensures in
+    let ok = c.in_ok-count_noted.ensures in
     let some = c.in-Some.ensures.drawn in
-    let below : c.in-Some.number < length c.args.plan.now = search rules in
+    let below : c.in-Some.number < length c.args.shared.now.plan.now = search rules in
     let above = above_drawn _ _ _ _ i.drawn (ap (λ s. s.drawn) some.1) c.in-Some.ensures.rising in
     let most = few_drawn _ _ (subst IsRising (sym ok.drawn) (rising_push _ _ i.rising above)) (below_more _ _ _ _ i.below below ok.drawn) in
-    let len = ap (λ (t : List ℕ). length t) ok.drawn ∙ length-append c.loop-number.done.drawn (c.in-Some.number ∷ []) in
+    let len = ap (λ (t : List ℕ). length t) ok.drawn ∙ length-append c.loop-number.counting.done.drawn (c.in-Some.number ∷ []) in
     omega arith
 
 pub count_noted-requires-clause-room : goal.count_noted-requires-clause-room
@@ -83,9 +83,9 @@ count_noted-requires-clause-rising g c κs within =
 pub count_noted-requires-clause-words : goal.count_noted-requires-clause-words
 count_noted-requires-clause-words g c κs within =
     let i = c.loop-number.invariant in
-    let below : c.in-Some.number < length c.args.plan.now = search rules in
+    let below : c.in-Some.number < length c.args.shared.now.plan.now = search rules in
     let above = above_drawn _ _ _ _ i.drawn (ap (λ s. s.drawn) c.in-Some.ensures.drawn.1) c.in-Some.ensures.rising in
-    omega (arith, c.requires.words, words_within _ _ _ _ _ _ i.count i.rising i.below above below)
+    omega (arith, c.requires.shared.words, words_within _ _ _ _ _ _ i.count i.rising i.below above below)
 
 pub count_noted-requires-clause-before : goal.count_noted-requires-clause-before
 count_noted-requires-clause-before g c κs within = total_count _ _ _ _ _ c.loop-number.invariant.count

@@ -11,18 +11,18 @@ invariant-loop-number g l = record {
   of : l.claim_seat.of ≡ l.fn.claim_seat.of;
   running : l.claim_seat.ended ≡ false;
   unstopped : l.claim_seat.stopped ≡ false;
-  drawn : l.done.drawn ≡ l.claim_seat.drawn;
-  rising : IsRising l.done.drawn;
-  below : All (λ n. n < length l.plan) l.done.drawn;
-  count : IsCountOf l.plan l.texts l.done.drawn l.done.counts l.words;
-  counting : IsCounting l.plan l.texts l.worker (g.H.Hand.ticks l.fn.hand) (g.H.Hand.ticks l.hand) l.first l.done.drawn (g.R.Rail.made l.fn.seat) (g.R.Rail.made l.done.seat);
-  made : length (g.R.Rail.made l.done.seat) ≡ length (g.R.Rail.made l.fn.seat) + length l.done.drawn;
-  taken : GainAlike (g.R.Rail.taken l.fn.seat) (g.R.Rail.taken l.done.seat) [] l.done.batch.items;
-  drops : g.R.Rail.DROPS ≡ true → g.R.Rail.taken l.done.seat ≡ g.R.Rail.taken l.fn.seat;
-  puts : (q : _) → g.R.Rail.PutsInto q l.fn.seat → g.R.Rail.PutsInto q l.done.seat;
-  takes : (q : _) → g.R.Rail.TakesFrom q l.fn.seat → g.R.Rail.TakesFrom q l.done.seat;
-  number : g.R.Rail.number_of l.done.seat ≡ g.R.Rail.number_of l.fn.seat;
+  drawn : l.counting.done.drawn ≡ l.claim_seat.drawn;
+  rising : IsRising l.counting.done.drawn;
+  below : All (λ n. n < length l.shared.plan.now) l.counting.done.drawn;
+  count : IsCountOf l.shared.plan.now l.shared.texts.now l.counting.done.drawn l.counting.done.counts l.counting.words;
+  counting : IsCounting l.shared.plan.now l.shared.texts.now l.worker (g.H.Hand.ticks l.fn.own.hand) (g.H.Hand.ticks l.counting.hand) l.first l.counting.done.drawn (g.R.Rail.made l.fn.own.seat) (g.R.Rail.made l.counting.done.seat);
+  made : length (g.R.Rail.made l.counting.done.seat) ≡ length (g.R.Rail.made l.fn.own.seat) + length l.counting.done.drawn;
+  taken : GainAlike (g.R.Rail.taken l.fn.own.seat) (g.R.Rail.taken l.counting.done.seat) [] l.counting.done.batch.items;
+  drops : g.R.Rail.DROPS ≡ true → g.R.Rail.taken l.counting.done.seat ≡ g.R.Rail.taken l.fn.own.seat;
+  puts : (q : _) → g.R.Rail.PutsInto q l.fn.own.seat → g.R.Rail.PutsInto q l.counting.done.seat;
+  takes : (q : _) → g.R.Rail.TakesFrom q l.fn.own.seat → g.R.Rail.TakesFrom q l.counting.done.seat;
+  number : g.R.Rail.number_of l.counting.done.seat ≡ g.R.Rail.number_of l.fn.own.seat;
 }
 
 abbrev pub decreases-loop-number : goal.decreases-loop-number
-decreases-loop-number g l = length l.plan - length l.done.drawn
+decreases-loop-number g l = length l.shared.plan.now - length l.counting.done.drawn
