@@ -2,10 +2,10 @@ ghost use Rattle.std.specs.Prelude.{◌≡◌, ℕ, ◌+◌, ◌<◌, ◌≤◌,
 ghost use Rattle.std.specs.List.{All};
 ghost use Rattle.std.specs.FinMap as map_of;
 ghost use Rattle.claim_table.specs.Claimed.{IsFresh};
-ghost use Rattle.cursor_word.specs.Cursor.{most_puts};
 ghost use Rattle.word_text.specs.Counts.{add_all};
 ghost use Rattle.word_workers.specs.Finished.{IsRun};
 ghost use Rattle.word_workers.specs.Parts.{EachOwn};
+ghost use Rattle.word_workers.specs.Shared.{IsShared};
 ghost use Rattle.word_workers.specs.Spans.{AllLieIn, plan_words};
 ghost use Rattle.word_workers.specs.Trace.{NamesText, RunMakes};
 
@@ -14,8 +14,9 @@ use crate::drawn::Drawn;
 use crate::gate::Gate;
 use crate::merging::merge_all;
 use crate::parts::{Parts, Run};
+use crate::shared::{Seats, Shared};
 use crate::turns::run_in_turn;
-use claim_table::{Claim, ClaimSeat};
+use claim_table::Claim;
 use flow_io::Clock;
 use rail::{Batch, Rail};
 use span_words::{MOST_WORKERS, SPAN_WORDS};
@@ -79,19 +80,19 @@ pub fn run_all<X: Threads + Wait + Sync, R: Rail, C: Clock, G: Gate>(
         → All (R.TakesFrom q) seats.items → All (R.TakesFrom q) work.seats.items) }
 {
     let (claim, claim_seats) = Claim::make(alloc, plan.len() as u64, workers + 1)?;
-    let Run { parts, seats } = run_workers(
-        rt,
-        alloc,
+    let _most = rail.shape().most_puts();
+    let shared = Shared {
         plan,
         texts,
-        workers,
         rail,
-        seats,
-        &claim,
-        claim_seats,
-        clock,
+        claim: &claim,
         gate,
-    )?;
+    };
+    let seats = Seats {
+        queue: seats,
+        claim: claim_seats,
+    };
+    let Run { parts, seats } = run_workers(rt, alloc, workers, &shared, clock, seats)?;
     let Parts {
         counts,
         batches,
@@ -112,66 +113,38 @@ pub fn run_all<X: Threads + Wait + Sync, R: Rail, C: Clock, G: Gate>(
 fn run_workers<X: Threads + Wait + Sync, R: Rail, C: Clock, G: Gate>(
     rt: &X,
     alloc: Global,
-    plan: &Plan,
-    texts: &[Text],
     workers: u64,
-    rail: &R,
-    seats: Vec<R::Seat>,
-    claim: &Claim,
-    claim_seats: Vec<ClaimSeat>,
+    shared: &Shared<'_, R, G>,
     clock: &C,
-    gate: &G,
+    seats: Seats<Vec<R::Seat>>,
 ) -> Result<Run<R::Seat>, AllocError>
     requires workers { (1 ≤ workers) × (workers ≤ MOST_WORKERS) }
-    requires width { (R.shape_of rail.now).width ≡ SPAN_WORDS }
-    requires inside { AllLieIn texts.now plan.now }
-    requires words { length (plan_words plan.now texts.now) < 2 ^ 63 }
-    requires most { length plan.now ≤ MOST_PIECES }
-    requires seats { (length seats.items ≡ 1) ⊎ (length seats.items ≡ workers + 1) }
-    requires puts { All (R.PutsInto rail.now) seats.items }
-    requires takes { All (R.TakesFrom rail.now) seats.items }
-    requires unused { All (λ seat. (R.made seat ≡ []) × (R.taken seat ≡ [])) seats.items }
-    requires pieces { claim.now.shape.pieces ≡ length plan.now }
-    requires claims { length claim_seats.items ≡ workers + 1 }
-    requires fresh { All (IsFresh claim.now) claim_seats.items }
+    requires shared { IsShared R.shape_of shared.now }
+    requires most { length shared.now.plan.now ≤ MOST_PIECES }
+    requires seats { (length seats.queue.items ≡ 1) ⊎ (length seats.queue.items ≡ workers + 1) }
+    requires puts { All (R.PutsInto shared.now.rail.now) seats.queue.items }
+    requires takes { All (R.TakesFrom shared.now.rail.now) seats.queue.items }
+    requires unused { All (λ seat. (R.made seat ≡ []) × (R.taken seat ≡ [])) seats.queue.items }
+    requires claims { length seats.claim.items ≡ workers + 1 }
+    requires fresh { All (IsFresh shared.now.claim.now) seats.claim.items }
     ensures run { IfOk result (IsRun R.made R.taken R.number_of R.PutsInto R.TakesFrom R.DROPS
-        plan.now texts.now (C.ticks clock.now) claim.now workers seats.items) }
-    ensures each { length seats.items ≡ workers + 1 → IfOk result (λ run. EachOwn R.made
-        plan.now texts.now (C.ticks clock.now) workers run.parts.drawn.items run.seats.items) }
-    ensures last { length seats.items ≡ workers + 1 → IfOk result (λ run. (seat : R.Seat)
+        shared.now.plan.now shared.now.texts.now (C.ticks clock.now) shared.now.claim.now workers
+        seats.queue.items) }
+    ensures each { length seats.queue.items ≡ workers + 1 → IfOk result (λ run. EachOwn R.made
+        shared.now.plan.now shared.now.texts.now (C.ticks clock.now) workers
+        run.parts.drawn.items run.seats.items) }
+    ensures last { length seats.queue.items ≡ workers + 1 → IfOk result (λ run. (seat : R.Seat)
         → R.made (slice_index_or run.seats.items workers seat) ≡ []) }
 {
-    if seats.len() > 1 {
-        return in_threads(
-            rt,
-            alloc,
-            plan,
-            texts,
-            rail,
-            seats,
-            claim,
-            claim_seats,
-            clock,
-            gate,
-        );
+    if seats.queue.len() > 1 {
+        return in_threads(rt, alloc, shared, clock, seats);
     }
-    let mut seats = seats;
-    let Some(seat) = seats.pop() else {
+    let Seats { mut queue, claim } = seats;
+    let Some(seat) = queue.pop() else {
         unreachable!()
     };
-    let run = run_in_turn(
-        rt,
-        alloc,
-        plan,
-        texts,
-        workers,
-        rail,
-        seat,
-        claim,
-        claim_seats,
-        clock,
-        gate,
-    )?;
+    let seats = Seats { queue: seat, claim };
+    let run = run_in_turn(rt, alloc, workers, shared, clock, seats)?;
     Ok(run)
 }
 
@@ -179,74 +152,51 @@ fn run_workers<X: Threads + Wait + Sync, R: Rail, C: Clock, G: Gate>(
 fn in_threads<X: Threads + Wait + Sync, R: Rail, C: Clock, G: Gate>(
     rt: &X,
     alloc: Global,
-    plan: &Plan,
-    texts: &[Text],
-    rail: &R,
-    seats: Vec<R::Seat>,
-    claim: &Claim,
-    claim_seats: Vec<ClaimSeat>,
+    shared: &Shared<'_, R, G>,
     clock: &C,
-    gate: &G,
+    seats: Seats<Vec<R::Seat>>,
 ) -> Result<Run<R::Seat>, AllocError>
-    requires workers { (2 ≤ length seats.items) × (length seats.items ≤ MOST_WORKERS + 1) }
-    requires width { (R.shape_of rail.now).width ≡ SPAN_WORDS }
-    requires inside { AllLieIn texts.now plan.now }
-    requires words { length (plan_words plan.now texts.now) < 2 ^ 63 }
-    requires most { length plan.now ≤ MOST_PIECES }
-    requires puts { All (R.PutsInto rail.now) seats.items }
-    requires takes { All (R.TakesFrom rail.now) seats.items }
-    requires unused { All (λ seat. (R.made seat ≡ []) × (R.taken seat ≡ [])) seats.items }
-    requires pieces { claim.now.shape.pieces ≡ length plan.now }
-    requires claims { length claim_seats.items ≡ length seats.items }
-    requires fresh { All (IsFresh claim.now) claim_seats.items }
-    ensures run { (workers : ℕ) → length seats.items ≡ workers + 1
+    requires shared { IsShared R.shape_of shared.now }
+    requires workers { (2 ≤ length seats.queue.items)
+        × (length seats.queue.items ≤ MOST_WORKERS + 1) }
+    requires puts { All (R.PutsInto shared.now.rail.now) seats.queue.items }
+    requires takes { All (R.TakesFrom shared.now.rail.now) seats.queue.items }
+    requires unused { All (λ seat. (R.made seat ≡ []) × (R.taken seat ≡ [])) seats.queue.items }
+    requires claims { length seats.claim.items ≡ length seats.queue.items }
+    requires fresh { All (IsFresh shared.now.claim.now) seats.claim.items }
+    ensures run { (workers : ℕ) → length seats.queue.items ≡ workers + 1
         → IfOk result (IsRun R.made R.taken R.number_of R.PutsInto R.TakesFrom R.DROPS
-        plan.now texts.now (C.ticks clock.now) claim.now workers seats.items) }
-    ensures each { (workers : ℕ) → length seats.items ≡ workers + 1
-        → IfOk result (λ run. EachOwn R.made plan.now texts.now (C.ticks clock.now) workers
-        run.parts.drawn.items run.seats.items) }
-    ensures last { (workers : ℕ) → length seats.items ≡ workers + 1
+        shared.now.plan.now shared.now.texts.now (C.ticks clock.now) shared.now.claim.now workers
+        seats.queue.items) }
+    ensures each { (workers : ℕ) → length seats.queue.items ≡ workers + 1
+        → IfOk result (λ run. EachOwn R.made shared.now.plan.now shared.now.texts.now
+        (C.ticks clock.now) workers run.parts.drawn.items run.seats.items) }
+    ensures last { (workers : ℕ) → length seats.queue.items ≡ workers + 1
         → IfOk result (λ run. (seat : R.Seat)
         → R.made (slice_index_or run.seats.items workers seat) ≡ []) }
 {
-    let _most = rail.shape().most_puts();
     thread::scope(
         thread::scope_env(),
         rt,
         |scope| -> Result<Run<R::Seat>, AllocError>
-            requires { (2 ≤ length seats.items) × (length seats.items ≤ MOST_WORKERS + 1)
-                × ((R.shape_of rail.now).width ≡ SPAN_WORDS)
-                × (length plan.now < most_puts (R.shape_of rail.now))
-                × AllLieIn texts.now plan.now × (length (plan_words plan.now texts.now) < 2 ^ 63)
-                × All (R.PutsInto rail.now) seats.items × All (R.TakesFrom rail.now) seats.items
-                × All (λ seat. (R.made seat ≡ []) × (R.taken seat ≡ [])) seats.items
-                × (claim.now.shape.pieces ≡ length plan.now)
-                × (length claim_seats.items ≡ length seats.items)
-                × All (IsFresh claim.now) claim_seats.items }
-            ensures run { (workers : ℕ) → length seats.items ≡ workers + 1
+            requires { IsShared R.shape_of shared.now
+                × (2 ≤ length seats.queue.items) × (length seats.queue.items ≤ MOST_WORKERS + 1)
+                × All (R.PutsInto shared.now.rail.now) seats.queue.items
+                × All (R.TakesFrom shared.now.rail.now) seats.queue.items
+                × All (λ seat. (R.made seat ≡ []) × (R.taken seat ≡ [])) seats.queue.items
+                × (length seats.claim.items ≡ length seats.queue.items)
+                × All (IsFresh shared.now.claim.now) seats.claim.items }
+            ensures run { (workers : ℕ) → length seats.queue.items ≡ workers + 1
                 → IfOk result (IsRun R.made R.taken R.number_of R.PutsInto R.TakesFrom R.DROPS
-                plan.entry.now texts.entry.now (C.ticks clock.entry.now) claim.entry.now workers
-                seats.items) }
-            ensures each { (workers : ℕ) → length seats.items ≡ workers + 1
-                → IfOk result (λ run. EachOwn R.made plan.entry.now texts.entry.now
-                (C.ticks clock.entry.now) workers run.parts.drawn.items run.seats.items) }
-            ensures last { (workers : ℕ) → length seats.items ≡ workers + 1
+                shared.entry.now.plan.now shared.entry.now.texts.now (C.ticks clock.entry.now)
+                shared.entry.now.claim.now workers seats.queue.items) }
+            ensures each { (workers : ℕ) → length seats.queue.items ≡ workers + 1
+                → IfOk result (λ run. EachOwn R.made shared.entry.now.plan.now
+                shared.entry.now.texts.now (C.ticks clock.entry.now) workers
+                run.parts.drawn.items run.seats.items) }
+            ensures last { (workers : ℕ) → length seats.queue.items ≡ workers + 1
                 → IfOk result (λ run. (seat : R.Seat)
                 → R.made (slice_index_or run.seats.items workers seat) ≡ []) }
-        {
-            run_beside(
-                scope,
-                rt,
-                alloc,
-                plan,
-                texts,
-                rail,
-                seats,
-                claim,
-                claim_seats,
-                clock,
-                gate,
-            )
-        },
+        { run_beside(scope, rt, alloc, shared, clock, seats) },
     )
 }

@@ -1,66 +1,59 @@
 //! Workers that run beside one another, each with a seat of its own, and a collector beside them.
-ghost use Rattle.std.specs.Prelude.{◌≡◌, ℕ, ◌+◌, ◌<◌, ◌≤◌, ◌^◌, List, [], Option, length, map, IfOk, slice_index_or};
+ghost use Rattle.std.specs.Prelude.{◌≡◌, ℕ, ◌+◌, ◌≤◌, List, [], Option, length, map, IfOk, slice_index_or};
 ghost use Rattle.std.specs.List.{All};
 ghost use Rattle.claim_table.specs.Claimed.{Claimant, IsFresh};
-ghost use Rattle.cursor_word.specs.Cursor.{most_puts};
 ghost use Rattle.flow_io.specs.Clock.{Ticks};
 ghost use Rattle.word_text.specs.declared.plan.Piece.{Piece};
 ghost use Rattle.word_workers.specs.Child.{AreChildren, seat_of};
 ghost use Rattle.word_workers.specs.Finished.{Finished, IsRun};
 ghost use Rattle.word_workers.specs.Parts.{EachOwn};
-ghost use Rattle.word_workers.specs.Spans.{AllLieIn, plan_words};
+ghost use Rattle.word_workers.specs.Shared.{IsShared};
+ghost use Rattle.word_workers.specs.Spans.{AllLieIn};
 
 use crate::child::{Child, begin, finish};
 use crate::collector::{Collected, collect};
 use crate::gate::Gate;
 use crate::parts::{Parts, Run, next_claim_seat};
-use claim_table::{Claim, ClaimSeat};
+use crate::shared::{Own, Seats, Shared};
 use flow_io::{Clock, Hand};
 use rail::Rail;
-use span_words::{MOST_WORKERS, SPAN_WORDS};
+use span_words::MOST_WORKERS;
 use std::alloc::{AllocError, Global};
 use std::sync::Wait;
 use std::thread::{Scope, Threads};
-use word_text::{Plan, Text};
 
 // Begins a worker with each of these seats, in order.
 fn begin_all<'s, E, X: Threads + Wait + Sync, R: Rail, C: Clock, G: Gate>(
     scope: &Scope<'s, E>,
     rt: &'s X,
     alloc: Global,
-    plan: &'s Plan,
-    texts: &'s [Text],
-    rail: &'s R,
-    seats: Vec<R::Seat>,
-    claim: &'s Claim,
-    claim_seats: Vec<ClaimSeat>,
+    shared: &'s Shared<'s, R, G>,
     clock: &'s C,
-    gate: &'s G,
+    seats: Seats<Vec<R::Seat>>,
 ) -> Result<Vec<Child<'s, R, C::Hand>>, AllocError>
-    requires workers { length seats.items ≤ MOST_WORKERS }
-    requires width { (R.shape_of rail.now).width ≡ SPAN_WORDS }
-    requires room { length plan.now < most_puts (R.shape_of rail.now) }
-    requires inside { AllLieIn texts.now plan.now }
-    requires words { length (plan_words plan.now texts.now) < 2 ^ 63 }
-    requires puts { All (R.PutsInto rail.now) seats.items }
-    requires takes { All (R.TakesFrom rail.now) seats.items }
-    requires unused { All (λ seat. (R.made seat ≡ []) × (R.taken seat ≡ [])) seats.items }
-    requires pieces { claim.now.shape.pieces ≡ length plan.now }
-    requires claims { length seats.items ≤ length claim_seats.items }
-    requires fresh { All (IsFresh claim.now) claim_seats.items }
+    requires shared { IsShared R.shape_of shared.now }
+    requires workers { length seats.queue.items ≤ MOST_WORKERS }
+    requires puts { All (R.PutsInto shared.now.rail.now) seats.queue.items }
+    requires takes { All (R.TakesFrom shared.now.rail.now) seats.queue.items }
+    requires unused { All (λ seat. (R.made seat ≡ []) × (R.taken seat ≡ [])) seats.queue.items }
+    requires claims { length seats.queue.items ≤ length seats.claim.items }
+    requires fresh { All (IsFresh shared.now.claim.now) seats.claim.items }
     ensures children { IfOk result (λ children. AreChildren R.made R.taken R.number_of R.PutsInto
-        R.TakesFrom R.DROPS C.Hand.ticks plan.now texts.now (C.ticks clock.now) claim.now 0
-        children.items) }
-    ensures seats { IfOk result (λ children. map seat_of children.items ≡ seats.items) }
+        R.TakesFrom R.DROPS C.Hand.ticks shared.now.plan.now shared.now.texts.now
+        (C.ticks clock.now) shared.now.claim.now 0 children.items) }
+    ensures seats { IfOk result (λ children. map seat_of children.items ≡ seats.queue.items) }
 {
-    let mut claim_seats = claim_seats;
+    let Seats {
+        queue,
+        claim: mut claim_seats,
+    } = seats;
     let mut children = Vec::new(alloc);
-    for seat in seats {
+    for seat in queue {
         let worker = children.len() as u64;
-        let claim_seat = next_claim_seat(claim, &mut claim_seats);
-        let child = begin(
-            scope, rt, alloc, worker, plan, texts, rail, seat, claim, claim_seat, clock, gate,
-        );
+        let hand = clock.hand(worker);
+        let own = Own { worker, seat, hand };
+        let claim_seat = next_claim_seat(shared.claim, &mut claim_seats);
+        let child = begin(scope, rt, alloc, shared, own, claim_seat);
         children.push(child)?;
     }
     Ok(children)
@@ -97,61 +90,49 @@ pub fn run_beside<'s, E, X: Threads + Wait + Sync, R: Rail, C: Clock, G: Gate>(
     scope: &Scope<'s, E>,
     rt: &'s X,
     alloc: Global,
-    plan: &'s Plan,
-    texts: &'s [Text],
-    rail: &'s R,
-    seats: Vec<R::Seat>,
-    claim: &'s Claim,
-    claim_seats: Vec<ClaimSeat>,
+    shared: &'s Shared<'s, R, G>,
     clock: &'s C,
-    gate: &'s G,
+    seats: Seats<Vec<R::Seat>>,
 ) -> Result<Run<R::Seat>, AllocError>
-    requires workers { (2 ≤ length seats.items) × (length seats.items ≤ MOST_WORKERS + 1) }
-    requires width { (R.shape_of rail.now).width ≡ SPAN_WORDS }
-    requires room { length plan.now < most_puts (R.shape_of rail.now) }
-    requires inside { AllLieIn texts.now plan.now }
-    requires words { length (plan_words plan.now texts.now) < 2 ^ 63 }
-    requires puts { All (R.PutsInto rail.now) seats.items }
-    requires takes { All (R.TakesFrom rail.now) seats.items }
-    requires unused { All (λ seat. (R.made seat ≡ []) × (R.taken seat ≡ [])) seats.items }
-    requires pieces { claim.now.shape.pieces ≡ length plan.now }
-    requires claims { length claim_seats.items ≡ length seats.items }
-    requires fresh { All (IsFresh claim.now) claim_seats.items }
-    ensures run { (workers : ℕ) → length seats.items ≡ workers + 1
+    requires shared { IsShared R.shape_of shared.now }
+    requires workers { (2 ≤ length seats.queue.items)
+        × (length seats.queue.items ≤ MOST_WORKERS + 1) }
+    requires puts { All (R.PutsInto shared.now.rail.now) seats.queue.items }
+    requires takes { All (R.TakesFrom shared.now.rail.now) seats.queue.items }
+    requires unused { All (λ seat. (R.made seat ≡ []) × (R.taken seat ≡ [])) seats.queue.items }
+    requires claims { length seats.claim.items ≡ length seats.queue.items }
+    requires fresh { All (IsFresh shared.now.claim.now) seats.claim.items }
+    ensures run { (workers : ℕ) → length seats.queue.items ≡ workers + 1
         → IfOk result (IsRun R.made R.taken R.number_of R.PutsInto R.TakesFrom R.DROPS
-        plan.now texts.now (C.ticks clock.now) claim.now workers seats.items) }
-    ensures each { (workers : ℕ) → length seats.items ≡ workers + 1
-        → IfOk result (λ run. EachOwn R.made plan.now texts.now (C.ticks clock.now) workers
-        run.parts.drawn.items run.seats.items) }
-    ensures last { (workers : ℕ) → length seats.items ≡ workers + 1
+        shared.now.plan.now shared.now.texts.now (C.ticks clock.now) shared.now.claim.now workers
+        seats.queue.items) }
+    ensures each { (workers : ℕ) → length seats.queue.items ≡ workers + 1
+        → IfOk result (λ run. EachOwn R.made shared.now.plan.now shared.now.texts.now
+        (C.ticks clock.now) workers run.parts.drawn.items run.seats.items) }
+    ensures last { (workers : ℕ) → length seats.queue.items ≡ workers + 1
         → IfOk result (λ run. (seat : R.Seat)
         → R.made (slice_index_or run.seats.items workers seat) ≡ []) }
 {
     let mut seats = seats;
-    let mut claim_seats = claim_seats;
-    let Some(last) = seats.pop() else {
+    let Some(last) = seats.queue.pop() else {
         unreachable!()
     };
-    let last_claim = next_claim_seat(claim, &mut claim_seats);
-    let workers = seats.len() as u64;
-    let children = begin_all(
-        scope,
-        rt,
-        alloc,
-        plan,
-        texts,
-        rail,
-        seats,
-        claim,
-        claim_seats,
-        clock,
-        gate,
-    )?;
+    let last_claim = next_claim_seat(shared.claim, &mut seats.claim);
+    let workers = seats.queue.len() as u64;
+    let children = begin_all(scope, rt, alloc, shared, clock, seats)?;
     let Collected {
         batch,
         seat,
         claim_seat,
-    } = collect(rt, alloc, rail, last, claim, last_claim, workers)?;
+    } = collect(
+        rt,
+        alloc,
+        shared.rail,
+        last,
+        shared.claim,
+        last_claim,
+        workers,
+    )?;
     let mut run = finish_all(rt, alloc, children)?;
     run.parts.batches.push(batch)?;
     run.parts.claim_seats.push(claim_seat)?;

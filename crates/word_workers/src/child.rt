@@ -1,17 +1,19 @@
 //! A worker that was begun, in a thread of its own or, where none could be made, in this one.
-ghost use Rattle.std.specs.Prelude.{◌≡◌, ◌+◌, ◌<◌, ◌^◌, [], length, IfOk};
+ghost use Rattle.std.specs.Prelude.{◌≡◌, ℕ, ◌+◌, ◌<◌, [], length, Option, Some, IfOk, IfSome};
 ghost use Rattle.claim_table.specs.Claimed.{IsFresh};
 ghost use Rattle.cursor_word.specs.Cursor.{most_puts};
+ghost use Rattle.flow_io.specs.Clock.{Ticks};
 ghost use Rattle.word_workers.specs.Child.{IsChild, Keeps, IsBegun, told_of};
 ghost use Rattle.word_workers.specs.Ended.{Served};
-ghost use Rattle.word_workers.specs.Spans.{AllLieIn, plan_words};
+ghost use Rattle.word_workers.specs.Shared.{IsShared};
 
 use crate::ended::{Ended, run_to_end};
 use crate::gate::Gate;
+use crate::shared::{Own, Shared};
 use claim_table::{Claim, ClaimSeat};
-use flow_io::{Clock, Hand};
+use flow_io::Hand;
 use rail::Rail;
-use span_words::{MOST_WORKERS, SPAN_WORDS};
+use span_words::MOST_WORKERS;
 use std::alloc::{AllocError, Global};
 use std::snapshot::Snapshot;
 use std::sync::Wait;
@@ -45,58 +47,46 @@ pub enum Child<'s, R: Rail, H: Hand> {
 }
 
 /// Begins a worker in a thread of its own, or runs it where none can be made.
-pub fn begin<'s, E, X: Threads + Wait + Sync, R: Rail, C: Clock, G: Gate>(
+pub fn begin<'s, E, X: Threads + Wait + Sync, R: Rail, H: Hand + 's, G: Gate>(
     scope: &Scope<'s, E>,
     rt: &'s X,
     alloc: Global,
-    worker: u64,
-    plan: &'s Plan,
-    texts: &'s [Text],
-    rail: &'s R,
-    seat: R::Seat,
-    claim: &'s Claim,
+    shared: &'s Shared<'s, R, G>,
+    own: Own<R::Seat, H>,
     claim_seat: ClaimSeat,
-    clock: &'s C,
-    gate: &'s G,
-) -> Child<'s, R, C::Hand>
-    requires worker { worker < MOST_WORKERS }
-    requires puts { R.PutsInto rail.now seat }
-    requires takes { R.TakesFrom rail.now seat }
-    requires width { (R.shape_of rail.now).width ≡ SPAN_WORDS }
-    requires room { length plan.now < most_puts (R.shape_of rail.now) }
-    requires inside { AllLieIn texts.now plan.now }
-    requires words { length (plan_words plan.now texts.now) < 2 ^ 63 }
-    requires unused { (R.made seat ≡ []) × (R.taken seat ≡ []) }
-    requires fresh { IsFresh claim.now claim_seat }
-    requires pieces { claim.now.shape.pieces ≡ length plan.now }
-    ensures child { IsChild R.made R.taken R.number_of R.PutsInto R.TakesFrom R.DROPS C.Hand.ticks
-        plan.now texts.now (C.ticks clock.now) claim.now worker result }
-    ensures seat { (told_of result).seat.value ≡ seat }
+) -> Child<'s, R, H>
+    requires shared { IsShared R.shape_of shared.now }
+    requires worker { own.worker < MOST_WORKERS }
+    requires puts { R.PutsInto shared.now.rail.now own.seat }
+    requires takes { R.TakesFrom shared.now.rail.now own.seat }
+    requires unused { (R.made own.seat ≡ []) × (R.taken own.seat ≡ []) }
+    requires fresh { IsFresh shared.now.claim.now claim_seat }
+    ensures child { (clock : ℕ → Option Ticks)
+        → IfSome (clock own.worker) (λ told. H.ticks own.hand ≡ Some told)
+        → IsChild R.made R.taken R.number_of R.PutsInto R.TakesFrom R.DROPS H.ticks
+        shared.now.plan.now shared.now.texts.now clock shared.now.claim.now own.worker result }
+    ensures seat { (told_of result).seat.value ≡ own.seat }
 {
-    let hand = clock.hand(worker);
     let given = Given {
-        worker,
-        plan,
-        texts,
-        claim,
-        seat: Snapshot::of(&seat),
-        hand: Snapshot::of(&hand),
+        worker: own.worker,
+        plan: shared.plan,
+        texts: shared.texts,
+        claim: shared.claim,
+        seat: Snapshot::of(&own.seat),
+        hand: Snapshot::of(&own.hand),
     };
     let told = Snapshot::of(&given);
     let run = move || -> Result<Ended<R::Seat>, AllocError>
-        requires { (worker < MOST_WORKERS) × R.PutsInto rail.now seat × R.TakesFrom rail.now seat
-            × ((R.shape_of rail.now).width ≡ SPAN_WORDS)
-            × (length (R.made seat) + length plan.now < most_puts (R.shape_of rail.now))
-            × AllLieIn texts.now plan.now × (length (plan_words plan.now texts.now) < 2 ^ 63)
-            × IsFresh claim.now claim_seat × (claim.now.shape.pieces ≡ length plan.now) }
+        requires { IsShared R.shape_of shared.now × (own.worker < MOST_WORKERS)
+            × R.PutsInto shared.now.rail.now own.seat
+            × R.TakesFrom shared.now.rail.now own.seat
+            × (length (R.made own.seat) + length shared.now.plan.now
+            < most_puts (R.shape_of shared.now.rail.now))
+            × IsFresh shared.now.claim.now claim_seat }
         ensures { IfOk result (λ ended. Served R.made R.taken R.number_of R.PutsInto R.TakesFrom
-            R.DROPS plan.entry.now texts.entry.now (C.Hand.ticks hand) worker claim.entry.now seat
-            ended) }
-    {
-        run_to_end(
-            rt, alloc, worker, plan, texts, rail, seat, claim, claim_seat, hand, gate,
-        )
-    };
+            R.DROPS shared.entry.now.plan.now shared.entry.now.texts.now (H.ticks own.hand)
+            own.worker shared.entry.now.claim.now own.seat ended) }
+    { run_to_end(rt, alloc, shared, own, claim_seat) };
     match scope.spawn_with(given, run) {
         Ok(child) => Child::There(child),
         Err(refused) => Child::Here(told, (refused.value)()),

@@ -1,20 +1,21 @@
 //! A worker with all that it is given, and all that it gives back.
-ghost use Rattle.std.specs.Prelude.{◌≡◌, ◌+◌, ◌<◌, ◌^◌, length, IfOk};
+ghost use Rattle.std.specs.Prelude.{◌+◌, ◌<◌, length, IfOk};
 ghost use Rattle.claim_table.specs.Claimed.{IsFresh};
 ghost use Rattle.cursor_word.specs.Cursor.{most_puts};
 ghost use Rattle.word_workers.specs.Ended.{Served};
-ghost use Rattle.word_workers.specs.Spans.{AllLieIn, plan_words};
+ghost use Rattle.word_workers.specs.Shared.{IsShared};
 
 use crate::drawn::Drawn;
 use crate::gate::Gate;
+use crate::shared::{Own, Shared};
 use crate::worker::{WorkerDone, run_worker};
-use claim_table::{Claim, ClaimSeat};
+use claim_table::ClaimSeat;
 use flow_io::Hand;
 use rail::{Batch, Rail};
-use span_words::{MOST_WORKERS, SPAN_WORDS};
+use span_words::MOST_WORKERS;
 use std::alloc::{AllocError, Global};
 use std::sync::Wait;
-use word_text::{Counts, Plan, Text};
+use word_text::Counts;
 
 /// What a worker gives back with both its seats. It names the seat's type alone, since a thread's
 /// result may name no type that its closure doesn't capture.
@@ -31,29 +32,23 @@ pub struct Ended<S> {
 pub fn run_to_end<R: Rail, H: Hand, G: Gate>(
     rt: &impl Wait,
     alloc: Global,
-    worker: u64,
-    plan: &Plan,
-    texts: &[Text],
-    rail: &R,
-    seat: R::Seat,
-    claim: &Claim,
+    shared: &Shared<'_, R, G>,
+    own: Own<R::Seat, H>,
     claim_seat: ClaimSeat,
-    hand: H,
-    gate: &G,
 ) -> Result<Ended<R::Seat>, AllocError>
-    requires worker { worker < MOST_WORKERS }
-    requires puts { R.PutsInto rail.now seat }
-    requires takes { R.TakesFrom rail.now seat }
-    requires width { (R.shape_of rail.now).width ≡ SPAN_WORDS }
-    requires room { length (R.made seat) + length plan.now < most_puts (R.shape_of rail.now) }
-    requires inside { AllLieIn texts.now plan.now }
-    requires words { length (plan_words plan.now texts.now) < 2 ^ 63 }
-    requires fresh { IsFresh claim.now claim_seat }
-    requires pieces { claim.now.shape.pieces ≡ length plan.now }
+    requires shared { IsShared R.shape_of shared.now }
+    requires worker { own.worker < MOST_WORKERS }
+    requires puts { R.PutsInto shared.now.rail.now own.seat }
+    requires takes { R.TakesFrom shared.now.rail.now own.seat }
+    requires room { length (R.made own.seat) + length shared.now.plan.now
+        < most_puts (R.shape_of shared.now.rail.now) }
+    requires fresh { IsFresh shared.now.claim.now claim_seat }
     ensures { IfOk result (λ ended. Served R.made R.taken R.number_of R.PutsInto R.TakesFrom R.DROPS
-        plan.now texts.now (H.ticks hand) worker claim.now seat ended) }
+        shared.now.plan.now shared.now.texts.now (H.ticks own.hand) own.worker
+        shared.now.claim.now own.seat ended) }
 {
     let mut claim_seat = claim_seat;
+    let Own { worker, seat, hand } = own;
     let WorkerDone {
         counts,
         batch,
@@ -63,14 +58,14 @@ pub fn run_to_end<R: Rail, H: Hand, G: Gate>(
         rt,
         alloc,
         worker,
-        plan,
-        texts,
-        rail,
+        shared.plan,
+        shared.texts,
+        shared.rail,
         seat,
-        claim,
+        shared.claim,
         &mut claim_seat,
         hand,
-        gate,
+        shared.gate,
     )?;
     Ok(Ended {
         counts,

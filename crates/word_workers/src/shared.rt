@@ -1,6 +1,6 @@
 //! What workers are given.
 use crate::gate::Gate;
-use claim_table::Claim;
+use claim_table::{Claim, ClaimSeat};
 use rail::Rail;
 use word_text::{Plan, Text};
 
@@ -21,4 +21,12 @@ pub struct Own<S, H> {
     pub worker: u64,
     pub seat: S,
     pub hand: H,
+}
+
+/// The seats of a run, which have done nothing before it: those of the queue, or its only one, and
+/// all of the claim.
+#[derive(Drop)]
+pub struct Seats<Q> {
+    pub queue: Q,
+    pub claim: Vec<ClaimSeat>,
 }

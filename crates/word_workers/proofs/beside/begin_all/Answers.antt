@@ -32,7 +32,7 @@ loop-seat-preserved g c =
     record {
       yields = one_moved _ _ _ _ _ i.yields step;
       len = omega arith;
-      are = are_pushed _ _ _ _ _ _ _ _ _ _ _ 0 _ _ _ _ pushed (search rules) i.are begun.child;
+      are = are_pushed _ _ _ _ _ _ _ _ _ _ _ 0 _ _ _ _ pushed (search rules) i.are (begun.child (g.C.Clock.ticks c.args.clock.now) c.hand-hand.ensures);
       seats = ap (map seat_of) pushed ∙ map-append seat_of c.loop-seat.children.items (c.begin-child.result ∷ []) ∙ ap (λ t. t ++ seat_of c.begin-child.result ∷ []) i.seats ∙ ap (λ t. c.loop-seat.yielded ++ t ∷ []) begun.seat;
       enough = omega arith;
       fresh = c.next_claim_seat-claim_seat.ensures.rest;
@@ -63,10 +63,10 @@ begin-child-requires-clause-worker g c κs within =
     omega arith
 
 pub begin-child-requires-clause-puts : goal.begin-child-requires-clause-puts
-begin-child-requires-clause-puts g c κs within = all_next (g.R.Rail.PutsInto c.args.rail.now) _ _ _ _ _ c.loop-seat.invariant.yields c.in-Some.ensures.steps.0 c.requires.puts
+begin-child-requires-clause-puts g c κs within = all_next (g.R.Rail.PutsInto c.args.shared.now.rail.now) _ _ _ _ _ c.loop-seat.invariant.yields c.in-Some.ensures.steps.0 c.requires.puts
 
 pub begin-child-requires-clause-takes : goal.begin-child-requires-clause-takes
-begin-child-requires-clause-takes g c κs within = all_next (g.R.Rail.TakesFrom c.args.rail.now) _ _ _ _ _ c.loop-seat.invariant.yields c.in-Some.ensures.steps.0 c.requires.takes
+begin-child-requires-clause-takes g c κs within = all_next (g.R.Rail.TakesFrom c.args.shared.now.rail.now) _ _ _ _ _ c.loop-seat.invariant.yields c.in-Some.ensures.steps.0 c.requires.takes
 
 pub begin-child-requires-clause-unused : goal.begin-child-requires-clause-unused
 begin-child-requires-clause-unused g c κs within = all_next (λ s. (g.R.Rail.made s ≡ []) × (g.R.Rail.taken s ≡ [])) _ _ _ _ _ c.loop-seat.invariant.yields c.in-Some.ensures.steps.0 c.requires.unused
