@@ -124,15 +124,7 @@ pub fn run_beside<'s, E, X: Threads + Wait + Sync, R: Rail, C: Clock, G: Gate>(
         batch,
         seat,
         claim_seat,
-    } = collect(
-        rt,
-        alloc,
-        shared.rail,
-        last,
-        shared.claim,
-        last_claim,
-        workers,
-    )?;
+    } = collect(rt, alloc, shared, last, last_claim, workers)?;
     let mut run = finish_all(rt, alloc, children)?;
     run.parts.batches.push(batch)?;
     run.parts.claim_seats.push(claim_seat)?;

@@ -2,12 +2,14 @@
 ghost use Rattle.std.specs.Prelude.{◌≡◌, [], ◌∷◌, ◌++◌, List, false, true, IfOk};
 ghost use Rattle.rail.specs.declared.entry.Placed.{Placed};
 ghost use Rattle.span_recorder.specs.Gain.{GainAlike};
+ghost use Rattle.word_workers.specs.Shared.{IsShared};
 
-use claim_table::{Claim, ClaimSeat};
+use crate::gate::Gate;
+use crate::shared::Shared;
+use claim_table::ClaimSeat;
 use crossbeam_utils::Backoff;
 use rail::{Batch, Rail, Take};
 use span_recorder::collect_one;
-use span_words::SPAN_WORDS;
 use std::alloc::{AllocError, Global};
 use std::sync::Wait;
 use std::thread::Parker;
@@ -27,18 +29,17 @@ pub struct Collected<S> {
 
 /// Takes from a queue that keeps all, until so many workers have ended. From one that drops its
 /// oldest entries nothing is taken.
-pub fn collect<R: Rail>(
+pub fn collect<R: Rail, G: Gate>(
     rt: &impl Wait,
     alloc: Global,
-    rail: &R,
+    shared: &Shared<'_, R, G>,
     seat: R::Seat,
-    claim: &Claim,
     claim_seat: ClaimSeat,
     workers: u64,
 ) -> Result<Collected<R::Seat>, AllocError>
-    requires takes { R.TakesFrom rail.now seat }
-    requires width { (R.shape_of rail.now).width ≡ SPAN_WORDS }
-    requires claim { claim_seat.of ≡ claim.now }
+    requires shared { IsShared R.shape_of shared.now }
+    requires takes { R.TakesFrom shared.now.rail.now seat }
+    requires claim { claim_seat.of ≡ shared.now.claim.now }
     ensures taken { IfOk result (λ done.
         GainAlike (R.taken seat) (R.taken done.seat) [] done.batch.items) }
     ensures drops { R.DROPS ≡ true → IfOk result (λ done. R.taken done.seat ≡ R.taken seat) }
@@ -46,7 +47,7 @@ pub fn collect<R: Rail>(
     ensures puts { IfOk result (λ done. (q : R) → R.PutsInto q seat → R.PutsInto q done.seat) }
     ensures takes { IfOk result (λ done. (q : R) → R.TakesFrom q seat → R.TakesFrom q done.seat) }
     ensures number { IfOk result (λ done. R.number_of done.seat ≡ R.number_of seat) }
-    ensures claim { IfOk result (λ done. done.claim_seat.of ≡ claim.now) }
+    ensures claim { IfOk result (λ done. done.claim_seat.of ≡ shared.now.claim.now) }
     ensures drawn { IfOk result (λ done. done.claim_seat.drawn ≡ claim_seat.drawn) }
 {
     let mut done = Collected {
@@ -61,10 +62,10 @@ pub fn collect<R: Rail>(
     let parker = Parker::new();
     let pause = Duration::from_micros(PAUSE_MICROSECONDS);
     for _ in rt.forever() {
-        if claim.ended(&mut done.claim_seat) == workers {
+        if shared.claim.ended(&mut done.claim_seat) == workers {
             break;
         }
-        match collect_one(alloc, rail, &mut done.seat, &mut done.batch)? {
+        match collect_one(alloc, shared.rail, &mut done.seat, &mut done.batch)? {
             Take::Ok(_) => backoff.reset(),
             _ if backoff.is_completed() => parker.park_timeout(rt, pause),
             _ => backoff.snooze(),

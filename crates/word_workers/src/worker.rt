@@ -161,8 +161,8 @@ fn work_off<R: Rail, H: Hand, G: Gate>(
     Ok(done)
 }
 
-// What a worker has done between two pieces: what it hands back, its hand of the clock, and how many
-// words it has counted.
+// A worker between two pieces: what it hands back so far, its hand of the clock, and how many words
+// it has counted.
 #[derive(Drop)]
 struct Counting<R: Rail, H: Hand> {
     done: WorkerDone<R>,
