@@ -1,6 +1,6 @@
 -- Workers with seats of their own, one after the other.
-use Rattle.std.proofs.Common.{◌≡◌, ℕ, ◌+◌, ◌<◌, ◌≤◌, List, [], ◌∷◌, ◌++◌, length, get_or, map, refl, sym, ap, subst, ◌∙◌, arith, below_more}
-use Rattle.std.specs.Prelude.{Bool, true, flat_map, Option, Some, IfSome}
+use Rattle.std.proofs.Common.{◌≡◌, ℕ, ◌+◌, ◌<◌, List, [], ◌∷◌, ◌++◌, length, get_or, map, refl, sym, ap, subst, ◌∙◌, arith, below_more}
+use Rattle.std.specs.Prelude.{Bool, flat_map, Option, Some, IfSome}
 use Rattle.std.specs.List.{All}
 use Rattle.std.proofs.lemmas.Grind.{flat_map-append}
 use Rattle.std.proofs.lemmas.List.{append-nil, append_assoc, length-append, map-append, get_or_append_left}
@@ -15,7 +15,6 @@ use Rattle.word_text.specs.Counts.{Numbers}
 use Rattle.word_text.specs.declared.plan.Piece.{Piece}
 use Rattle.word_workers.specs.Spans.{AllLieIn}
 use Rattle.word_workers.specs.Worked.{Worked}
-use Rattle.word_workers.specs.Parts.{Counted, EachOwn, HasRun}
 use Rattle.word_workers.specs.Ended.{Served}
 use Rattle.word_workers.specs.declared.ended.Ended.{Ended}
 use Rattle.word_workers.specs.Finished.{Finished}

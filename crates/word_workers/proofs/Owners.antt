@@ -4,7 +4,7 @@ use Rattle.std.specs.Prelude.{Bool, true, false, cond, filter, ◌==◌}
 use Rattle.std.specs.List.{AllByRecursion, enumerate_from, All}
 use Rattle.std.proofs.lemmas.List.Elements.{recursion_from_All}
 use Rattle.rail.specs.declared.entry.Placed.{Placed}
-use Rattle.span_words.specs.declared.span.SpanKind.TheVariants.{Worker, Piece as PieceKind}
+use Rattle.span_words.specs.declared.span.SpanKind.TheVariants.{Piece as PieceKind}
 use Rattle.span_words.specs.declared.span.SpanEvent.{SpanEvent}
 use Rattle.span_words.specs.Span.{event_of, spelling}
 use Rattle.span_words.proofs.Spellings.{event_of-spelling}

@@ -1,14 +1,12 @@
 -- What the workers of a run did so far, one worker after another.
-use Rattle.std.proofs.Common.{◌≡◌, ℕ, zero, suc, ◌+◌, ◌-◌, ◌*◌, ◌<◌, ◌≤◌, List, [], ◌∷◌, ◌++◌, length, get_or, drop, map, refl, sym, ap, subst, ◌∙◌, zero-add, arith, below_more}
+use Rattle.std.proofs.Common.{◌≡◌, ℕ, ◌+◌, ◌*◌, ◌<◌, List, [], ◌∷◌, ◌++◌, length, get_or, drop, map, refl, sym, ap, subst, ◌∙◌, arith, below_more}
 use Rattle.std.specs.Prelude.{true, false, filter, flat_map, ◌==◌, Option, Some, None, IfSome, IsPermutation}
-use Rattle.std.specs.List.{All, AllByRecursion, enumerate_from, range_with_len}
-use Rattle.std.specs.FinMap as map_of
+use Rattle.std.specs.List.{All, enumerate_from}
 use Rattle.std.proofs.lemmas.Bool.Decides.{nat_tests}
 use Rattle.std.proofs.lemmas.Grind.{flat_map-append}
 use Rattle.std.proofs.lemmas.List.{append-nil, length-append, length-map, get_or_append_left}
-use Rattle.std.proofs.lemmas.List.FromFn.{get_or-range_with_len, length-enumerate_from, length-range_with_len}
+use Rattle.std.proofs.lemmas.List.FromFn.{length-enumerate_from}
 use Rattle.std.proofs.lemmas.List.Elements.{All-append, All-from_recursion, All-nil, filter-append, recursion_from_All}
-use Rattle.std.proofs.lemmas.List.Sorted.{IsPermutation-refl}
 use Rattle.std.proofs.Math.Seq.{drop-append_seam, get_or-append_seam}
 use Rattle.flow_io.specs.Clock.{Ticks, reading_at}
 use Rattle.rail.specs.declared.entry.Placed.{Placed}
@@ -21,9 +19,7 @@ use Rattle.span_recorder.specs.Events.{events_of}
 use Rattle.span_recorder.specs.Gain.{GainAlike}
 use Rattle.span_recorder.proofs.Gains.{events_spelled}
 use Rattle.word_text.specs.declared.plan.Piece.{Piece}
-use Rattle.word_text.specs.Counts.{Numbers, add_all, total}
-use Rattle.word_text.proofs.Totals.{total-add_all, total-empty}
-use Rattle.word_workers.specs.Spans.{AllLieIn, AreReadings, plan_words, span_at, spans_of, words_at, worker_span}
+use Rattle.word_workers.specs.Spans.{AllLieIn, AreReadings, span_at, spans_of, worker_span}
 use Rattle.word_workers.specs.Trace.{HasSpans, IsSpanOfSome, NamesText, RunMakes, is_of}
 use Rattle.word_workers.specs.Worked.{Worked}
 use Rattle.word_workers.specs.Parts.{HasRun}

@@ -1,5 +1,5 @@
 -- What several workers gave back.
-use Rattle.std.specs.Prelude.{◌≡◌, ℕ, ◌+◌, ◌<◌, Bool, true, List, [], length, map, filter, flat_map, slice_index_or, Option}
+use Rattle.std.specs.Prelude.{◌≡◌, ℕ, ◌<◌, true, List, [], length, map, filter, flat_map, slice_index_or, Option}
 use Rattle.std.specs.List.{All, Any}
 use Rattle.claim_table.specs.Claimed.{Claimant, Drawing}
 use Rattle.flow_io.specs.Clock.{Ticks}

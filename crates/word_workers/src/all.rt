@@ -100,7 +100,7 @@ pub fn run_all<X: Threads + Wait + Sync, R: Rail, C: Clock, G: Gate>(
         claim_seats,
     } = parts;
     claim.close(claim_seats);
-    let counts = merge_all(alloc, counts)?;
+    let counts = merge_all(rt, alloc, counts)?;
     Ok(Work {
         counts,
         batches,

@@ -1,54 +1,106 @@
 //! The counts of all workers together.
-ghost use Rattle.std.specs.Prelude.{◌≡◌, ◌+◌, ◌<◌, ◌≤◌, ◌^◌, List, ℕ, length, map, flat_map, slice_index_or, sum_by, IfOk};
+ghost use Rattle.std.specs.Prelude.{◌≡◌, ◌+◌, ◌<◌, ◌≤◌, ◌++◌, ◌^◌, List, ℕ, length, sum_by, true, IfOk};
+ghost use Rattle.std.specs.List.{All};
 ghost use Rattle.std.specs.FinMap as map_of;
-ghost use Rattle.word_text.specs.Counts.{Numbers, add_all, total};
-ghost use Rattle.word_workers.specs.Merged.{merged_with};
+ghost use denote.Param.Send.{IsSync};
+ghost use Rattle.word_text.specs.Counts.{add_all, total};
+ghost use Rattle.word_workers.specs.Merged.{AreTogether};
 
 use std::alloc::{AllocError, Global};
+use std::thread::{Threads, join};
 use word_text::{Counts, merge};
 
-/// The counts of all of these together. Those with the most words are taken as they are.
-pub fn merge_all(alloc: Global, counts: Vec<Counts>) -> Result<Counts, AllocError>
+/// With fewer words than this a thread costs more than it saves.
+const WORDS_FOR_A_THREAD: usize = 4096;
+
+/// The counts of all of these together: those of each half, merged with one another. Where both
+/// halves have much to merge, one is merged in a thread of its own, or here where none can be made.
+#[cycle(merging)]
+pub fn merge_all<X: Threads + Sync>(
+    rt: &X,
+    alloc: Global,
+    counts: Vec<Counts>,
+) -> Result<Counts, AllocError>
     requires room { sum_by total counts.items < 2 ^ 63 }
-    ensures { IfOk result (λ all. (parts : List (List (List ℕ)))
-        → counts.items ≡ map (add_all map_of.empty) parts
-        → all ≡ add_all map_of.empty (flat_map (λ part. part) parts)) }
+    ensures { IfOk result (AreTogether counts.items) }
+{
+    if counts.len() < 2 {
+        return Ok(only_one(alloc, counts));
+    }
+    let (half, rest) = in_halves(counts)?;
+    if !pays_a_thread(half.as_slice()) || !pays_a_thread(rest.as_slice()) {
+        let first = merge_all(rt, alloc, half)?;
+        let second = merge_all(rt, alloc, rest)?;
+        let both = merge_two(alloc, first, second)?;
+        return Ok(both);
+    }
+    let (first, second) = join(
+        rt,
+        move || -> Result<Counts, AllocError>
+            requires { IsSync X.row × (sum_by total half.items < 2 ^ 63) }
+            ensures { IfOk result (AreTogether half.items) }
+        { merge_all(rt, alloc, half) },
+        move || -> Result<Counts, AllocError>
+            requires { IsSync X.row × (sum_by total rest.items < 2 ^ 63) }
+            ensures { IfOk result (AreTogether rest.items) }
+        { merge_all(rt, alloc, rest) },
+    );
+    let both = merge_two(alloc, first?, second?)?;
+    Ok(both)
+}
+
+// The only counts, or those of no word.
+fn only_one(alloc: Global, counts: Vec<Counts>) -> Counts
+    requires few { length counts.items < 2 }
+    ensures { AreTogether counts.items result }
 {
     let mut counts = counts;
-    if counts.is_empty() {
-        return Ok(Counts::new(alloc));
+    match counts.pop() {
+        Some(only) => only,
+        None => Counts::new(alloc),
     }
-    let most = most_distinct(counts.as_slice());
-    let most_words = counts.swap_remove(most);
-    let all = merge_into(alloc, most_words, counts)?;
-    Ok(all)
 }
 
-// The index of those with the most words.
-fn most_distinct(counts: &[Counts]) -> usize
-    requires some { 0 < length counts.now }
-    ensures within { result < length counts.now }
-    ensures most { (index : ℕ) (none : Numbers) → index < length counts.now
-        → map_of.len (slice_index_or counts.now index none)
-        ≤ map_of.len (slice_index_or counts.now result none) }
+// The first half of several counts, and the rest.
+fn in_halves(counts: Vec<Counts>) -> Result<(Vec<Counts>, Vec<Counts>), AllocError>
+    requires some { 2 ≤ length counts.items }
+    ensures all { IfOk result (λ halves. halves.0.items ++ halves.1.items ≡ counts.items) }
+    ensures totals { IfOk result (λ halves.
+        sum_by total halves.0.items + sum_by total halves.1.items ≡ sum_by total counts.items) }
+    ensures first { IfOk result (λ halves. length halves.0.items < length counts.items) }
+    ensures second { IfOk result (λ halves. length halves.1.items < length counts.items) }
 {
-    let mut most = 0;
-    for index in 1..counts.len() {
-        if counts[index].distinct() > counts[most].distinct() {
-            most = index;
-        }
-    }
-    most
+    let mut counts = counts;
+    let half = counts.len() / 2;
+    let rest = counts.split_off(half)?;
+    Ok((counts, rest))
 }
 
-// Counts with those of all others merged into them.
-fn merge_into(alloc: Global, counts: Counts, others: Vec<Counts>) -> Result<Counts, AllocError>
-    requires room { total counts + sum_by total others.items < 2 ^ 63 }
-    ensures { IfOk result (λ all. all ≡ merged_with counts others.items) }
+// Whether there is something to merge here, and each of these has words enough for a thread.
+fn pays_a_thread(counts: &[Counts]) -> bool
+    ensures several { result ≡ true → 2 ≤ length counts.now }
+    ensures words { result ≡ true → All (λ own. WORDS_FOR_A_THREAD ≤ map_of.len own) counts.now }
 {
-    let mut all = counts;
-    for own in others {
-        merge(alloc, &mut all, &own)?;
+    counts.len() > 1
+        && counts
+            .iter()
+            .all(|own| own.distinct() >= WORDS_FOR_A_THREAD)
+}
+
+// The counts of both together. Those with more words are taken as they are.
+fn merge_two(alloc: Global, first: Counts, second: Counts) -> Result<Counts, AllocError>
+    requires room { total first + total second < 2 ^ 63 }
+    ensures counted { IfOk result (λ both. (words more : List (List ℕ))
+        → first ≡ add_all map_of.empty words → second ≡ add_all map_of.empty more
+        → both ≡ add_all map_of.empty (words ++ more)) }
+    ensures totals { IfOk result (λ both. total both ≡ total first + total second) }
+{
+    let mut first = first;
+    let mut second = second;
+    if first.distinct() < second.distinct() {
+        merge(alloc, &mut second, &first)?;
+        return Ok(second);
     }
-    Ok(all)
+    merge(alloc, &mut first, &second)?;
+    Ok(first)
 }

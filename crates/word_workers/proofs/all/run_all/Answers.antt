@@ -1,25 +1,24 @@
-use Rattle.std.proofs.Common.{rules, ◌≡◌, ◌+◌, ◌<◌, ◌^◌, ◌∷◌, [], List, length, refl, sym, ap, subst, ◌∙◌, arith}
-use Rattle.std.specs.Prelude.{flat_map, IsPermutation}
-use Rattle.std.specs.List.{range_with_len}
+use Rattle.std.proofs.Common.{rules, length, subst, arith}
+use Rattle.std.specs.Prelude.{IsPermutation}
 use Rattle.std.proofs.lemmas.List.Sorted.{IsPermutation-refl}
 use Rattle.word_workers.proofs.Joining.{drawn_once}
 use Rattle.word_workers.proofs.Merges.{counts_together, few_together}
 use Rattle.word_workers.proofs.Runs.{run_all_made}
 use Rattle.word_workers.proofs.all.run_all.Goals as goal
 
-pub merge_all-requires : goal.merge_all-requires
-merge_all-requires g c =
+pub merge_all-requires-clause-room : goal.merge_all-requires-clause-room
+merge_all-requires-clause-room g c κs within =
     let r = c.in_ok-parts.ensures.run in
     let once = drawn_once _ _ _ (length c.args.plan.now) _ _ r.claims c.close.ensures.once (search rules) in
     let few = few_together _ _ _ once _ r.counted in
     let words = c.requires.words in
-    record { room = omega arith }
+    omega arith
 
 pub returns-clause-counts : goal.returns-clause-counts
 returns-clause-counts g c =
     let r = c.in_ok-parts.ensures.run in
     let once = drawn_once _ _ _ (length c.args.plan.now) _ _ r.claims c.close.ensures.once (search rules) in
-    counts_together _ _ _ once _ _ r.counted c.in_ok-counts.ensures
+    counts_together _ _ _ once _ _ r.counted c.in_ok-counts.ensures.counted
 
 pub returns-clause-makes : goal.returns-clause-makes
 returns-clause-makes g c =

@@ -1,5 +1,4 @@
-use Rattle.std.proofs.Common.{rules, ◌≡◌, ◌+◌, ◌<◌, ◌∷◌, [], List, length, refl, sym, ap, subst, ◌∙◌, arith, inl, inr}
-use Rattle.std.specs.List.{All}
+use Rattle.std.proofs.Common.{◌≡◌, [], sym, subst, arith}
 use Rattle.word_workers.specs.Finished.{IsRun}
 use Rattle.word_workers.proofs.OneSeat.{of_one}
 use Rattle.word_workers.proofs.Ways.{only_one}

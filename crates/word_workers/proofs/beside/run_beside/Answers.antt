@@ -1,8 +1,6 @@
-use Rattle.std.proofs.Common.{rules, ◌≡◌, ◌+◌, ◌∷◌, ◌++◌, [], List, length, map, refl, sym, ap, subst, ◌∙◌, arith}
+use Rattle.std.proofs.Common.{rules, ◌≡◌, ◌∷◌, ◌++◌, [], refl, ap, subst, ◌∙◌, arith}
 use Rattle.std.specs.List.{All}
-use Rattle.std.proofs.lemmas.List.{length-append, length-map}
 use Rattle.word_workers.specs.Child.{seat_of}
-use Rattle.word_workers.specs.Finished.{Finished}
 use Rattle.word_workers.proofs.Finishing.{all_early, all_last, at_last}
 use Rattle.word_workers.proofs.Ways.{each_with, finished_all, with_collector}
 use Rattle.word_workers.proofs.beside.run_beside.Goals as goal

@@ -1,4 +1,4 @@
-use Rattle.std.proofs.Common.{[], ◌++◌, ◌+◌, ◌∙◌, ◌∷◌, ◌≡◌, ◌≤◌, List, ap, arith, length, map, refl, rules, sym, subst}
+use Rattle.std.proofs.Common.{[], ◌++◌, ◌+◌, ◌∙◌, ◌∷◌, ◌≡◌, List, ap, arith, length, map, refl, rules, sym, subst}
 use Rattle.std.specs.Prelude.{flat_map}
 use Rattle.cursor_word.specs.Cursor.{most_puts}
 use Rattle.rail.specs.Items.{IsRising, places}
