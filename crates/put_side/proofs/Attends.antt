@@ -10,7 +10,8 @@ use Rattle.machine.specs.declared.view.View.{View}
 use Rattle.machine.proofs.Lists.{get_set_same, one_le_sum, sum_set}
 use Rattle.put_side.specs.Cursors.{Front, PutCursors, PutWords, place}
 use Rattle.put_side.specs.Stages.{PutStage}
-use Rattle.put_side.specs.Stages.{OpenA}
+use Rattle.put_side.specs.declared.put_phase.PutPhase.TheVariants.{OpenA}
+use Rattle.put_side.specs.Stages.{At}
 use Rattle.put_side.specs.Counts.{one_at}
 use Rattle.put_side.specs.Manned.{IsManned, enters, in_all, opens_allocated, raises_producer, second_in}
 use Rattle.put_side.specs.Places.{IsTurn}
@@ -44,7 +45,7 @@ module _ {P : Type 0} (stage : View P → PutStage) (g : Grid) (limits : IsWithi
       }
 
   -- a seat that opens the next block stands for it
-  pub manned_opens : (front : Front) (cs' : PutCursors) (full : Cursor) → full.block + 1 ≡ front.last → stage v' ≡ OpenA full → IsManned stage g front cs' (slice_set vs id v')
+  pub manned_opens : (front : Front) (cs' : PutCursors) (full : Cursor) → full.block + 1 ≡ front.last → stage v' ≡ At (OpenA full) → IsManned stage g front cs' (slice_set vs id v')
   manned_opens front cs' full e to =
       let k : ℕ = front.last in
       let here = get_set_same vs id v v' at in

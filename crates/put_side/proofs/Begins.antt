@@ -18,7 +18,8 @@ use Rattle.machine.specs.Steps.{resting, start_words}
 use Rattle.machine.proofs.Lists.{get_replicate}
 use Rattle.put_side.specs.Cursors.{Front, allocated_word, place, put_cursors}
 use Rattle.put_side.specs.Stages.{PutStage}
-use Rattle.put_side.specs.Stages.{Away, HeadP}
+use Rattle.put_side.specs.declared.put_phase.PutPhase.TheVariants.{HeadP}
+use Rattle.put_side.specs.Stages.{Away, At}
 use Rattle.put_side.specs.Counts.{adds, adds_in, claim_count, claimed, claims, makes, one_below, times}
 use Rattle.put_side.specs.Places.{PutFits, PutKnows, PutPlaces}
 use Rattle.put_side.specs.Entries.{HasEntries, HoldsWords}
@@ -31,10 +32,10 @@ use Rattle.put_side.proofs.Entries.{entries_stay}
 module _ {P : Type 0} (stage : View P → PutStage) (g : Grid) where
   -- a seat at rest begins a put of an entry that is as wide
   pub begins_put : (front : Front) (ws : List ℕ) (vs : List (View P)) (id : ℕ) (v v' : View P) → PutSide stage g front ws vs → slice_get vs id ≡ Some v → stage v ≡ Away
-      → v'.made ≡ v.made → stage v' ≡ HeadP 1 (cursor 0 0) → length v'.entry ≡ g.width → PutSide stage g front ws (slice_set vs id v')
+      → v'.made ≡ v.made → stage v' ≡ At (HeadP 1 (cursor 0 0)) → length v'.entry ≡ g.width → PutSide stage g front ws (slice_set vs id v')
   begins_put front ws vs id v v' side at e made stands wide = record {
     all = side.all;
-    places = stays stage g front (put_cursors g ws) vs id v v' Away (HeadP 1 (cursor 0 0)) side.places at e made stands record { holds = refl; knows = inl refl; adds = λ k. inl refl };
+    places = stays stage g front (put_cursors g ws) vs id v v' Away (At (HeadP 1 (cursor 0 0))) side.places at e made stands record { holds = refl; knows = inl refl; adds = λ k. inl refl };
     entries = entries_stay stage g (allocated_word g ws) (allocated_word g ws) ws ws (λ k. omega arith) (λ i h. refl) vs id v v' side.entries at made wide (subst (HoldsWords g ws v'.entry) (sym stands) tt);
   }
 

@@ -17,7 +17,8 @@ use Rattle.machine.specs.declared.view.View.{View}
 use Rattle.machine.proofs.Lists.{sum_set}
 use Rattle.put_side.specs.Cursors.{Front, PutCursors, allocated_word, committed_word, place, put_cursors}
 use Rattle.put_side.specs.Stages.{PutStage, held}
-use Rattle.put_side.specs.Stages.{Away, Commit}
+use Rattle.put_side.specs.declared.put_phase.PutPhase.TheVariants.{Commit}
+use Rattle.put_side.specs.Stages.{Away, At}
 use Rattle.put_side.specs.Counts.{adds, adds_in, claim_count, claimed, claims, makes, one_at, sum_below, times}
 use Rattle.put_side.specs.Places.{PutKnows, PutPlaces}
 use Rattle.put_side.specs.Entries.{HasEntries, HasWords, HoldsWords}
@@ -71,7 +72,7 @@ module _ {P : Type 0} (stage : View P → PutStage) (g : Grid) (front : Front) (
       let n : claims stage g q u ≡ makes q u + one_at q q = ap (λ (l : List ℕ). times q (places u.made ++ l)) holds ∙ times_push q q (places u.made) in let y = one_is q in omega arith
 
 module _ {P : Type 0} (stage : View P → PutStage) (g : Grid) (limits : IsWithinLimits g) (front : Front) (ws : List ℕ) (vs : List (View P)) (id : ℕ) (v v' : View P) (p : PutPlaces stage g front (put_cursors g ws) vs) (here : slice_get vs id ≡ Some v)
-    (at : Cursor) (e : stage v ≡ Commit at) (to : MakesIt stage g v v' at) where
+    (at : Cursor) (e : stage v ≡ At (Commit at)) (to : MakesIt stage g v v' at) where
   abbrev words' : List ℕ
   words' = slice_set ws (3 + 4 * (at.block % g.blocks)) ((committed_word g ws at.block + 1) % 2 ^ 64)
 
@@ -85,7 +86,7 @@ module _ {P : Type 0} (stage : View P → PutStage) (g : Grid) (limits : IsWithi
       let i : ℕ = 3 + 4 * (at.block % g.blocks) in
       let x : ℕ = (committed_word g ws at.block + 1) % 2 ^ 64 in
       let own = p.each id v here in
-      let f = knows_at stage g front ws vs id v v' p here (Commit at) e in
+      let f = knows_at stage g front ws vs id v v' p here (At (Commit at)) e in
       let c = p.counts in
       let s = p.words in
       let mine : claimed stage g v ≡ places v.made ++ q ∷ [] = ap (λ (s : PutStage). places v.made ++ held g s) e in
@@ -136,7 +137,7 @@ module _ {P : Type 0} (stage : View P → PutStage) (g : Grid) (limits : IsWithi
       let i : ℕ = 3 + 4 * (at.block % g.blocks) in
       let x : ℕ = (committed_word g ws at.block + 1) % 2 ^ 64 in
       let own = all id v here in
-      let f = knows_at stage g front ws vs id v v' p here (Commit at) e in
+      let f = knows_at stage g front ws vs id v v' p here (At (Commit at)) e in
       let m = mod_below at.block g.blocks (omega (arith, limits.blocks_from)) in
       let behind : KeepsEntries g ws words' = λ j l. get_or-set_other ws i j x 0 (λ r. omega arith) in
       let more : (k : ℕ) → allocated_word g ws k ≤ allocated_word g words' k = λ k. let y = get_or-set_other ws i (2 + 4 * (k % g.blocks)) x 0 (λ r. omega arith) in omega arith in

@@ -16,7 +16,8 @@ use Rattle.machine.specs.declared.view.View.{View}
 use Rattle.machine.proofs.Lists.{one_le_sum, sum_set}
 use Rattle.put_side.specs.Cursors.{Front, IsHalfOpen, IsOpen, PutCursors, PutWords, allocated_word, place, put_cursors}
 use Rattle.put_side.specs.Stages.{PutStage, by_room, fills, held}
-use Rattle.put_side.specs.Stages.{AddA, Write}
+use Rattle.put_side.specs.declared.put_phase.PutPhase.TheVariants.{AddA, Write}
+use Rattle.put_side.specs.Stages.{At}
 use Rattle.put_side.specs.Counts.{PutCounts, adds, adds_in, claim_count, claimed, claims, makes, one_at, one_below, times}
 use Rattle.put_side.specs.Places.{PutKnows, PutPlaces}
 use Rattle.put_side.proofs.Sums.{by_test, none_from, rising_push, sum_same, times_push, upto_same}
@@ -122,7 +123,7 @@ module _ {P : Type 0} (stage : View P → PutStage) (g : Grid) (limits : IsWithi
   claims_below : (id : ℕ) (v : View P) → slice_get vs id ≡ Some v → (q : ℕ) → front.next ≤ q → times q (claimed stage g v) ≡ 0
   claims_below id v at q le = let o = p.counts.once q in let m = one_le_sum (claims stage g q) vs id v at in let z = none_from q front.next le in omega arith
 
-  module _ (long : 2 + 4 * g.blocks ≤ length ws) (small : front.last < most_block) (id : ℕ) (v v' : View P) (at : slice_get vs id ≡ Some v) (turn : ℕ) (first : Cursor) (head : ℕ) (e : stage v ≡ AddA turn first head) where
+  module _ (long : 2 + 4 * g.blocks ≤ length ws) (small : front.last < most_block) (id : ℕ) (v v' : View P) (at : slice_get vs id ≡ Some v) (turn : ℕ) (first : Cursor) (head : ℕ) (e : stage v ≡ At (AddA turn first head)) where
     abbrev word : ℕ
     word = allocated_word g ws head
 
@@ -141,7 +142,7 @@ module _ {P : Type 0} (stage : View P → PutStage) (g : Grid) (limits : IsWithi
 
     one_more : HasOneMore g head (allocated_word g ws) (allocated_word g words')
     one_more =
-        let f = knows_at stage g front ws vs id v v' p at (AddA turn first head) e in
+        let f = knows_at stage g front ws vs id v v' p at (At (AddA turn first head)) e in
         let m = mod_below head g.blocks (omega (arith, limits.blocks_from)) in
         let le : head ≤ front.last = omega (arith, f.1.to, p.words.head_to) in
         let b = allocated_below p.words limits.blocks_from (physical g ws 2) head in
@@ -151,34 +152,34 @@ module _ {P : Type 0} (stage : View P → PutStage) (g : Grid) (limits : IsWithi
     grown : IsGrown (put_cursors g ws) cursors'
     grown = record { producer = omega arith; allocated = one_more_le g head _ _ one_more; committed = λ k. omega arith }
 
-    adds_here : (k : ℕ) → k % g.blocks ≡ head % g.blocks → adds_in g (k % g.blocks) (AddA turn first head) ≡ 1
+    adds_here : (k : ℕ) → k % g.blocks ≡ head % g.blocks → adds_in g (k % g.blocks) (At (AddA turn first head)) ≡ 1
     adds_here k q = ap (λ (b : ℕ). one_at (head % g.blocks) b) q ∙ one_is (head % g.blocks)
 
     -- where the block was filled
     draws_none : g.size ≤ word % offset_span → Leaves stage v v' (fills turn (unpacked word)) → PutPlaces stage g front cursors' (slice_set vs id v')
     draws_none le to =
         let cs : PutCursors = put_cursors g ws in
-        let f = knows_at stage g front ws vs id v v' p at (AddA turn first head) e in
+        let f = knows_at stage g front ws vs id v v' p at (At (AddA turn first head)) e in
         let is = found p.words limits.blocks_from (physical g ws 2) head f.1.to in
         let u = one_more in
-        quiet stage g front cs vs id v v' (AddA turn first head) (fills turn (unpacked word)) p at e to.made to.stands cursors' grown (λ k. refl)
+        quiet stage g front cs vs id v v' (At (AddA turn first head)) (fills turn (unpacked word)) p at e to.made to.stands cursors' grown (λ k. refl)
         (words_filled p.words head (allocated_word g words') u le)
         (λ k l r. inl (⊎_elim (λ q. let t = u.there k q in let z = adds_here k q in omega (arith, t.1)) (λ q. let z = u.elsewhere k q in omega arith) (cases_eq (k % g.blocks) (head % g.blocks))))
         (fills_next g front.last cursors' (turn == 1) (unpacked word) (filled_grows g front.last cs cursors' grown (unpacked word) (found_filled cs head (physical g ws 2) f.1.from is le)))
 
     -- where a place was free
-    draws_next : word % offset_span < g.size → Leaves stage v v' (Write (unpacked word) 0) → PutPlaces stage g (with_next front (front.next + 1)) cursors' (slice_set vs id v')
+    draws_next : word % offset_span < g.size → Leaves stage v v' (At (Write (unpacked word) 0)) → PutPlaces stage g (with_next front (front.next + 1)) cursors' (slice_set vs id v')
     draws_next less to =
         let cs : PutCursors = put_cursors g ws in
         let a : ℕ = front.next in
         let own = p.each id v at in
-        let f = knows_at stage g front ws vs id v v' p at (AddA turn first head) e in
+        let f = knows_at stage g front ws vs id v v' p at (At (AddA turn first head)) e in
         let is = found p.words limits.blocks_from (physical g ws 2) head f.1.to in
         let d = is.draws less in
         let u = one_more in
         let n : (k : ℕ) → k % g.blocks ≡ head % g.blocks → adds stage g k v ≡ 1 = λ k q. ap (adds_in g (k % g.blocks)) e ∙ adds_here k q in
         let n' : (k : ℕ) → adds stage g k v' ≡ 0 = λ k. ap (adds_in g (k % g.blocks)) to.stands in
-        let mine : claimed stage g v ≡ places v.made = claims_none stage g v (AddA turn first head) e refl in
+        let mine : claimed stage g v ≡ places v.made = claims_none stage g v (At (AddA turn first head)) e refl in
         let here : place g (word / offset_span) (word % offset_span) ≡ a = ap (λ (k : ℕ). place g k (word % offset_span)) d.0 ∙ sym d.1 in
         let mine' : claimed stage g v' ≡ places v.made ++ a ∷ [] =
         ap (λ (l : List Placed). places l ++ held g (stage v')) to.made ∙ ap (λ (s : PutStage). places v.made ++ held g s) to.stands ∙ ap (λ (p : ℕ). places v.made ++ p ∷ []) here in
@@ -195,10 +196,10 @@ module _ {P : Type 0} (stage : View P → PutStage) (g : Grid) (limits : IsWithi
         }
 
     -- one more place is allocated, or none
-    pub places_AddA : Leaves stage v v' (by_room g word turn (Write (unpacked word) 0)) → (n : ℕ) × (front.next ≤ n) × PutPlaces stage g (with_next front n) (put_cursors g words') (slice_set vs id v')
+    pub places_AddA : Leaves stage v v' (by_room g word turn (At (Write (unpacked word) 0))) → (n : ℕ) × (front.next ≤ n) × PutPlaces stage g (with_next front n) (put_cursors g words') (slice_set vs id v')
     places_AddA to =
         subst (λ (c : PutCursors). (n : ℕ) × (front.next ≤ n) × PutPlaces stage g (with_next front n) c (slice_set vs id v')) is_cursors
-        (by_test (word % offset_span) g.size (λ b. Leaves stage v v' (if b then Write (unpacked word) 0 else fills turn (unpacked word)) → (n : ℕ) × (front.next ≤ n) × PutPlaces stage g (with_next front n) cursors' (slice_set vs id v'))
+        (by_test (word % offset_span) g.size (λ b. Leaves stage v v' (if b then At (Write (unpacked word) 0) else fills turn (unpacked word)) → (n : ℕ) × (front.next ≤ n) × PutPlaces stage g (with_next front n) cursors' (slice_set vs id v'))
         (λ l to. (front.next + 1, omega arith, draws_next l to))
         (λ l to. (front.next, omega arith, draws_none l to))
         to)

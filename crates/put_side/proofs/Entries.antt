@@ -9,7 +9,8 @@ use Rattle.rail.specs.declared.entry.Placed.{Placed}
 use Rattle.machine.specs.declared.view.View.{View}
 use Rattle.machine.proofs.Lists.{get_set}
 use Rattle.put_side.specs.Stages.{PutStage}
-use Rattle.put_side.specs.Stages.{Write, Commit}
+use Rattle.put_side.specs.declared.put_phase.PutPhase.TheVariants.{Write, Commit}
+use Rattle.put_side.specs.Stages.{At}
 use Rattle.put_side.specs.Entries.{HasEntries, HasWords, HoldsWords, IsPresent}
 
 -- the words behind the cursors stay
@@ -24,8 +25,8 @@ pub words_same : (g : Grid) (ws ws' : List ℕ) (at : Cursor) (entry : List ℕ)
 words_same g ws ws' at entry n same h w l = same (entry_index g (at.block % g.blocks) at.offset w) (omega arith) ∙ h w l
 
 held_same : (g : Grid) (ws ws' : List ℕ) (entry : List ℕ) (s : PutStage) → KeepsEntries g ws ws' → HoldsWords g ws entry s → HoldsWords g ws' entry s
-held_same g ws ws' entry (Write at next) same h = words_same g ws ws' at entry next same h
-held_same g ws ws' entry (Commit at) same h = words_same g ws ws' at entry g.width same h
+held_same g ws ws' entry (At (Write at next)) same h = words_same g ws ws' at entry next same h
+held_same g ws ws' entry (At (Commit at)) same h = words_same g ws ws' at entry g.width same h
 held_same g ws ws' entry s same h = tt
 
 module _ {P : Type 0} (stage : View P → PutStage) (g : Grid) (allocated allocated' : ℕ → ℕ) (ws ws' : List ℕ) (more : (k : ℕ) → allocated k ≤ allocated' k) where

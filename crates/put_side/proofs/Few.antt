@@ -10,14 +10,15 @@ use Rattle.machine.specs.declared.view.View.{View}
 use Rattle.machine.specs.Invariant.{made_count, made_total}
 use Rattle.put_side.specs.Cursors.{Front, PutCursors, place}
 use Rattle.put_side.specs.Stages.{PutStage, held}
-use Rattle.put_side.specs.Stages.{Write, Commit}
+use Rattle.put_side.specs.declared.put_phase.PutPhase.TheVariants.{Write, Commit}
+use Rattle.put_side.specs.Stages.{At}
 use Rattle.put_side.specs.Counts.{claim_count}
 use Rattle.put_side.specs.Places.{PutPlaces}
 use Rattle.put_side.proofs.Sums.{sum_more}
 
 held_short : (g : Grid) (s : PutStage) → length (held g s) ≤ 1
-held_short g (Write at next) = omega arith
-held_short g (Commit at) = omega arith
+held_short g (At (Write at next)) = omega arith
+held_short g (At (Commit at)) = omega arith
 held_short g s = omega arith
 
 module _ {P : Type 0} (stage : View P → PutStage) (g : Grid) where

@@ -13,7 +13,8 @@ use Rattle.machine.specs.declared.view.View.{View}
 use Rattle.machine.proofs.Lists.{get_set, sum_set}
 use Rattle.put_side.specs.Cursors.{Front, PutCursors, PutWords, place}
 use Rattle.put_side.specs.Stages.{PutStage, held}
-use Rattle.put_side.specs.Stages.{Away, HeadP, SeeA, AddA, Write, Commit, Fills, OpenM, OpenA, RaiseP}
+use Rattle.put_side.specs.declared.put_phase.PutPhase.TheVariants.{HeadP, SeeA, AddA, Write, Commit, OpenM, OpenA, RaiseP}
+use Rattle.put_side.specs.Stages.{Away, At, Fills}
 use Rattle.put_side.specs.Counts.{PutCounts, adds, adds_in, claim_count, claimed, claims, makes, one_at, times}
 use Rattle.put_side.specs.Places.{IsFilled, IsHead, IsTurn, PutFits, PutKnows, PutPlaces}
 use Rattle.put_side.proofs.Sums.{one_le, sum_same, upto_same}
@@ -40,18 +41,18 @@ module _ (g : Grid) (last : ℕ) (cs cs' : PutCursors) (more : IsGrown cs cs') w
 
   pub knows_grows : (s : PutStage) → PutKnows g last cs s → PutKnows g last cs' s
   knows_grows Away f = tt
-  knows_grows (HeadP turn first) f = turn_grows turn first cs.producer cs'.producer more.producer f
-  knows_grows (SeeA turn first head) f = (f.0, head_grows head f.1)
-  knows_grows (AddA turn first head) f = (f.0, head_grows head f.1)
-  knows_grows (Write at next) f = f
-  knows_grows (Commit at) f = f
+  knows_grows (At (HeadP turn first)) f = turn_grows turn first cs.producer cs'.producer more.producer f
+  knows_grows (At (SeeA turn first head)) f = (f.0, head_grows head f.1)
+  knows_grows (At (AddA turn first head)) f = (f.0, head_grows head f.1)
+  knows_grows (At (Write at next)) f = f
+  knows_grows (At (Commit at)) f = f
   knows_grows (Fills full) f = filled_grows full f
-  knows_grows (OpenM full) f = filled_grows full f
-  knows_grows (OpenA full) f = (filled_grows full f.0, let e = more.committed (full.block + 1) in omega (arith, f.1))
-  knows_grows (RaiseP full) f = (filled_grows full f.0, let e = more.allocated (full.block + 1) in omega (arith, f.1))
+  knows_grows (At (OpenM full)) f = filled_grows full f
+  knows_grows (At (OpenA full)) f = (filled_grows full f.0, let e = more.committed (full.block + 1) in omega (arith, f.1))
+  knows_grows (At (RaiseP full)) f = (filled_grows full f.0, let e = more.allocated (full.block + 1) in omega (arith, f.1))
 
 adds_le : (g : Grid) (k : ℕ) (s : PutStage) → adds_in g k s ≤ 1
-adds_le g k (AddA turn first head) = one_le (head % g.blocks) k
+adds_le g k (At (AddA turn first head)) = one_le (head % g.blocks) k
 adds_le g k s = omega arith
 
 -- a step that makes nothing leaves its seat's put at this stage

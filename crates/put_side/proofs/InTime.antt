@@ -1,5 +1,5 @@
 -- Places are accepted in order of time.
-use Rattle.std.proofs.Common.{◌≡◌, ℕ, ◌+◌, ◌<◌, ◌≤◌, Bool, true, false, List, [], ◌∷◌, ◌++◌, refl, sym, ap, ◌∙◌, subst, ⊎_elim, arith}
+use Rattle.std.proofs.Common.{◌≡◌, ℕ, ◌+◌, ◌≤◌, Bool, true, false, List, [], ◌∷◌, ◌++◌, refl, sym, ap, ◌∙◌, subst, ⊎_elim, arith}
 use Rattle.std.specs.Prelude.{Some, None, if◌then◌else◌, nat_lt}
 use Rattle.std.specs.List.{sum_by}
 use Rattle.std.proofs.lemmas.Bool.{cases_lt}
@@ -14,17 +14,17 @@ use Rattle.rail.specs.Items.{placed, places}
 use Rattle.machine.specs.declared.event.Event.{Event}
 use Rattle.machine.specs.declared.event.Start.{Start}
 use Rattle.machine.specs.declared.event.Start.TheVariants as start
-use Rattle.machine.specs.declared.op.After.{After}
 use Rattle.machine.specs.declared.view.View.{View}
 use Rattle.machine.specs.Table.{Table}
-use Rattle.machine.specs.Steps.{begun, made_after, phase_after, seen}
+use Rattle.machine.specs.Steps.{begun, made_after, seen}
 use Rattle.machine.specs.Moments.{EndsAt, IsInOrder, moment}
-use Rattle.machine.proofs.InTime.{IsClaimed, Lasts, in_order, lasts_by, made_at_end}
+use Rattle.machine.proofs.InTime.{Lasts, in_order, lasts_by, made_at_end}
 use Rattle.machine.proofs.Turns.{begun_made}
 use Rattle.put_side.specs.Counts.{claims, makes, one_below, times}
 use Rattle.put_side.specs.Stages.{PutStage, held, put_after}
-use Rattle.put_side.specs.Stages.{Away, HeadP, SeeA, AddA, Write, Commit, Fills, OpenM, OpenA, RaiseP}
-use Rattle.put_side.specs.PutTable.{IsNoCommit, IsPutTable, IsShared, stage_after, stage_in, stage_of}
+use Rattle.put_side.specs.declared.put_phase.PutPhase.TheVariants.{HeadP, SeeA, AddA, Write, Commit, OpenM, OpenA, RaiseP}
+use Rattle.put_side.specs.Stages.{Away, At, Fills}
+use Rattle.put_side.specs.PutTable.{IsNoCommit, IsPutTable, IsShared, stage_in, stage_of}
 use Rattle.put_side.proofs.Sums.{none_from, one_in, one_to, times_push}
 use Rattle.put_side.proofs.Draws.{one_is}
 use Rattle.put_side.proofs.Frames.{makes_le}
@@ -44,7 +44,7 @@ pub once_dense : (total : ℕ → ℕ) (count : ℕ) → ((p : ℕ) → total p 
 once_dense total count once p q l h =
     ⊎_elim (λ less. let e = once q in let o = one_in q count (omega arith) in omega arith) (λ more. absurd (let e = once p in let z = none_from p count more in omega arith)) (cases_lt p count)
 
-holds_on : (g : Grid) (at : Cursor) (next : ℕ) (more : Bool) → held g (if more then Write at next else Commit at) ≡ place_at g at ∷ []
+holds_on : (g : Grid) (at : Cursor) (next : ℕ) (more : Bool) → held g (if more then At (Write at next) else At (Commit at)) ≡ place_at g at ∷ []
 holds_on g at next true = refl
 holds_on g at next false = refl
 
@@ -78,24 +78,24 @@ module _ {P : Type 0} (stage : P → PutStage) (table : Table P) (puts : IsPutTa
     from_none = let e = ap (times p) (append-nil (places v.made)) in let m = makes_more v.made v.entry p (table.after g phase found) in let l = makes_le (stage_of stage) g p next in omega arith
 
     by_stage : (s : PutStage) → stage phase ≡ s → times p (places v.made ++ held g s) ≤ claims (stage_of stage) g p next
-    by_stage (Write at n) e =
+    by_stage (At (Write at n)) e =
         let made : next.made ≡ v.made = puts.makes_none g phase found v.made v.entry (subst IsNoCommit (sym e) tt) in
-        let stands : stage_of stage next ≡ put_after g (Write at n) found = stage_next stage table puts g (table.after g phase found) ∙ puts.after g phase found (subst IsShared (sym e) tt) ∙ ap (λ (s : PutStage). put_after g s found) e in
+        let stands : stage_of stage next ≡ put_after g (At (Write at n)) found = stage_next stage (table.after g phase found) ∙ puts.after g phase found (subst IsShared (sym e) tt) ∙ ap (λ (s : PutStage). put_after g s found) e in
         let holds : held g (stage_of stage next) ≡ place_at g at ∷ [] = ap (held g) stands ∙ holds_on g at (n + 1) (nat_lt (n + 1) g.width) in
         let same : claims (stage_of stage) g p next ≡ times p (places v.made ++ place_at g at ∷ []) = ap (λ (made : List Placed). times p (places made ++ held g (stage_of stage next))) made ∙ ap (λ (l : List ℕ). times p (places v.made ++ l)) holds in
         omega arith
-    by_stage (Commit at) e =
+    by_stage (At (Commit at)) e =
         let made : next.made ≡ v.made ++ placed (place_at g at) v.entry ∷ [] = ap (made_after v.made v.entry) (puts.commits g phase at found e) in
         let is : places next.made ≡ places v.made ++ place_at g at ∷ [] = ap places made ∙ places_append v.made _ in
         let f = ap (times p) is in let l = makes_le (stage_of stage) g p next in omega arith
     by_stage Away e = from_none
-    by_stage (HeadP turn first) e = from_none
-    by_stage (SeeA turn first head) e = from_none
-    by_stage (AddA turn first head) e = from_none
+    by_stage (At (HeadP turn first)) e = from_none
+    by_stage (At (SeeA turn first head)) e = from_none
+    by_stage (At (AddA turn first head)) e = from_none
     by_stage (Fills full) e = from_none
-    by_stage (OpenM full) e = from_none
-    by_stage (OpenA full) e = from_none
-    by_stage (RaiseP full) e = from_none
+    by_stage (At (OpenM full)) e = from_none
+    by_stage (At (OpenA full)) e = from_none
+    by_stage (At (RaiseP full)) e = from_none
 
   step_claims : (p : ℕ) (v : View P) (phase : P) (found : ℕ) → v.phase ≡ Some phase → claims (stage_of stage) g p v ≤ claims (stage_of stage) g p (seen table g v phase found)
   step_claims p v phase found e =

@@ -17,7 +17,8 @@ use Rattle.machine.specs.Table.{Table}
 use Rattle.machine.specs.Steps.{made_after, phase_after, seen, view_after, words_after}
 use Rattle.put_side.specs.Cursors.{Front, allocated_word, place, put_cursors}
 use Rattle.put_side.specs.Stages.{PutStage, by_room, fills, put_after, put_want}
-use Rattle.put_side.specs.Stages.{Away, HeadP, SeeA, AddA, Write, Commit, Fills, OpenM, OpenA, RaiseP}
+use Rattle.put_side.specs.declared.put_phase.PutPhase.TheVariants.{HeadP, SeeA, AddA, Write, Commit, OpenM, OpenA, RaiseP}
+use Rattle.put_side.specs.Stages.{Away, At, Fills}
 use Rattle.put_side.specs.Places.{PutKnows, PutPlaces}
 use Rattle.put_side.specs.Entries.{HoldsWords}
 use Rattle.put_side.specs.PutSide.{PutSide}
@@ -40,7 +41,7 @@ use Rattle.put_side.proofs.Attends.{entered_last, manned_opens, stays_manned}
 pub record OpensNext (s : PutStage) (front to : Front) : Type 0 where
   pub next : to.last ≡ front.last + 1
   pub full : Cursor
-  pub opens : s ≡ OpenM full
+  pub opens : s ≡ At (OpenM full)
   pub newest : full.block ≡ front.last
 
 -- what a shared step of a put at this stage leaves: puts have come as far as before or further
@@ -55,7 +56,7 @@ never_back further = ⊎_elim (λ e. omega arith) (λ o. omega (arith, o.next)) 
 
 -- what the step of a put at this stage leaves in its seat's view
 abbrev pub Did : {P : Type 0} → (View P → PutStage) → Grid → List ℕ → View P → View P → PutStage → Type 0
-Did stage g ws v v' (Commit at) = MakesIt stage g v v' at
+Did stage g ws v v' (At (Commit at)) = MakesIt stage g v v' at
 Did stage g ws v v' s = Leaves stage v v' (put_after g s (slice_index ws (index (put_want g s v.entry))))
 
 -- the stage after a found cursor has no words written
@@ -108,11 +109,11 @@ module _ {P : Type 0} (stage : View P → PutStage) (g : Grid) (limits : IsWithi
   low : (k : ℕ) → k % g.blocks < g.blocks
   low k = mod_below k g.blocks (omega (arith, limits.blocks_from))
 
-  pub keeps_stage : (s : PutStage) → stage v ≡ s → IsShared s → Did stage g ws v v' s → ((full : Cursor) → s ≡ OpenM full → full.block ≡ front.last → MayOpen g front.last (put_cursors g ws)) → IsKept stage g s front ws (words_by s) vs vs'
+  pub keeps_stage : (s : PutStage) → stage v ≡ s → IsShared s → Did stage g ws v v' s → ((full : Cursor) → s ≡ At (OpenM full) → full.block ≡ front.last → MayOpen g front.last (put_cursors g ws)) → IsKept stage g s front ws (words_by s) vs vs'
   keeps_stage Away e h to may = absurd h
-  keeps_stage (HeadP turn first) e h to may =
-      let s : PutStage = HeadP turn first in
-      let s' : PutStage = SeeA turn first (slice_index ws 0) in
+  keeps_stage (At (HeadP turn first)) e h to may =
+      let s : PutStage = At (HeadP turn first) in
+      let s' : PutStage = At (SeeA turn first (slice_index ws 0)) in
       let m = moves s tt in
       let p = places_HeadP stage g front ws vs id v v' side.places at turn first e to in
       record {
@@ -121,10 +122,10 @@ module _ {P : Type 0} (stage : View P → PutStage) (g : Grid) (limits : IsWithi
         side = both front s p (no_entry s 0 _ s' m.grown (omega arith) to tt);
         manned = works front.next s s' (words_by s) e to.stands p (omega arith) m.grown (inl (omega arith)) (inl (omega arith)) (inl (omega arith));
       }
-  keeps_stage (SeeA turn first head) e h to may =
-      let s : PutStage = SeeA turn first head in
+  keeps_stage (At (SeeA turn first head)) e h to may =
+      let s : PutStage = At (SeeA turn first head) in
       let w : ℕ = allocated_word g ws head in
-      let s' : PutStage = by_room g w turn (AddA turn first head) in
+      let s' : PutStage = by_room g w turn (At (AddA turn first head)) in
       let m = moves s tt in
       let f = knows s e in
       let b = low head in
@@ -132,15 +133,15 @@ module _ {P : Type 0} (stage : View P → PutStage) (g : Grid) (limits : IsWithi
       record {
         to = front;
         further = inl refl;
-        side = both front s p (no_entry s _ _ s' m.grown (omega arith) to (by_words g (words_by s) v'.entry _ (turn == 1) (AddA turn first head) (unpacked w) tt));
+        side = both front s p (no_entry s _ _ s' m.grown (omega arith) to (by_words g (words_by s) v'.entry _ (turn == 1) (At (AddA turn first head)) (unpacked w) tt));
         manned = works front.next s s' (words_by s) e to.stands p (omega arith) m.grown (inl (omega arith)) (inl (omega arith))
-            (by_test (w % offset_span) g.size (λ b. (second_in front.last turn first ≤ enters front.last (if b then AddA turn first head else fills turn (unpacked w))) ⊎ (place g front.last 0 < front.next)) (λ l. inl (omega arith))
+            (by_test (w % offset_span) g.size (λ b. (second_in front.last turn first ≤ enters front.last (if b then At (AddA turn first head) else fills turn (unpacked w))) ⊎ (place g front.last 0 < front.next)) (λ l. inl (omega arith))
             (λ l. ⊎_elim (λ z. inl (omega arith)) (λ z. inr z) (entered_last stage g limits vs id v v' at front (put_cursors g ws) turn first head side.places.words f.0 f.1.to (omega (arith, limits.size_from)))));
       }
-  keeps_stage (AddA turn first head) e h to may =
-      let s : PutStage = AddA turn first head in
+  keeps_stage (At (AddA turn first head)) e h to may =
+      let s : PutStage = At (AddA turn first head) in
       let w : ℕ = allocated_word g ws head in
-      let s' : PutStage = by_room g w turn (Write (unpacked w) 0) in
+      let s' : PutStage = by_room g w turn (At (Write (unpacked w) 0)) in
       let m = moves s tt in
       let f = knows s e in
       let b = low head in
@@ -152,13 +153,13 @@ module _ {P : Type 0} (stage : View P → PutStage) (g : Grid) (limits : IsWithi
       record {
         to = with_next front q.0;
         further = inl refl;
-        side = both (with_next front q.0) s q.2 (no_entry s _ _ s' m.grown (omega arith) to (by_words g (words_by s) v'.entry _ (turn == 1) (Write (unpacked w) 0) (unpacked w) (λ i l. absurd (omega arith))));
+        side = both (with_next front q.0) s q.2 (no_entry s _ _ s' m.grown (omega arith) to (by_words g (words_by s) v'.entry _ (turn == 1) (At (Write (unpacked w) 0)) (unpacked w) (λ i l. absurd (omega arith))));
         manned = works q.0 s s' (words_by s) e to.stands q.2 q.1 m.grown (inl (omega arith)) (inl (omega arith))
             (⊎_elim (λ z. inl (omega arith)) (λ z. inr z) (entered_last stage g limits vs id v v' at (with_next front q.0) (put_cursors g (words_by s)) turn first head q.2.words f.0 (let p = m.grown.producer in omega (arith, f.1.to)) some));
       }
-  keeps_stage (Write at' next) e h to may =
-      let s : PutStage = Write at' next in
-      let s' : PutStage = put_after g (Write at' next) 0 in
+  keeps_stage (At (Write at' next)) e h to may =
+      let s : PutStage = At (Write at' next) in
+      let s' : PutStage = put_after g (At (Write at' next)) 0 in
       let m = moves s tt in
       let p = places_Write stage g limits front ws vs side.places id v v' at at' next e long (slice_index v.entry next) to in
       record {
@@ -167,8 +168,8 @@ module _ {P : Type 0} (stage : View P → PutStage) (g : Grid) (limits : IsWithi
         side = both front s p (entries_Write stage g limits front ws vs side.places id v v' at at' next e side.entries side.all to);
         manned = works front.next s s' (words_by s) e to.stands p (omega arith) m.grown (inl (omega arith)) (inl (omega arith)) (inl (omega arith));
       }
-  keeps_stage (Commit at') e h to may =
-      let s : PutStage = Commit at' in
+  keeps_stage (At (Commit at')) e h to may =
+      let s : PutStage = At (Commit at') in
       let m = moves s tt in
       let p = places_Commit stage g limits front ws vs id v v' side.places at at' e to long small in
       record {
@@ -178,53 +179,54 @@ module _ {P : Type 0} (stage : View P → PutStage) (g : Grid) (limits : IsWithi
         manned = works front.next s Away (words_by s) e to.stands p (omega arith) m.grown (inl (omega arith)) (inl (omega arith)) (inl (omega arith));
       }
   keeps_stage (Fills full) e h to may = absurd h
-  keeps_stage (OpenM full) e h to may =
-      let s : PutStage = OpenM full in
+  keeps_stage (At (OpenM full)) e h to may =
+      let s : PutStage = At (OpenM full) in
       let m = moves s tt in
       let b = low (full.block + 1) in
       let q = places_OpenM stage g limits front ws vs side.places long id v v' at full e to (may full refl) in
       record {
         to = with_last front q.0;
         further = ⊎_elim (λ z. inl z) (λ z. inr record { next = z.0; full = full; opens = refl; newest = z.1 }) q.1;
-        side = both (with_last front q.0) s q.2 (no_entry s _ _ (OpenA full) m.grown (omega arith) to tt);
+        side = both (with_last front q.0) s q.2 (no_entry s _ _ (At (OpenA full)) m.grown (omega arith) to tt);
         manned = ⊎_elim
             (λ z. subst (λ (k : ℕ). PutPlaces stage g (with_last front k) (put_cursors g (words_by s)) vs' → IsManned stage g front (put_cursors g ws) vs → IsManned stage g (with_last front k) (put_cursors g (words_by s)) vs') (sym z)
-            (λ p. works front.next s (OpenA full) (words_by s) e to.stands p (omega arith) m.grown (inl (omega arith)) (inl (omega arith)) (inl (omega arith))) q.2)
+            (λ p. works front.next s (At (OpenA full)) (words_by s) e to.stands p (omega arith) m.grown (inl (omega arith)) (inl (omega arith)) (inl (omega arith))) q.2)
             (λ z _. manned_opens stage g limits vs id v v' at (with_last front q.0) (put_cursors g (words_by s)) full (omega (arith, z.0, z.1)) to.stands) q.1;
       }
-  keeps_stage (OpenA full) e h to may =
-      let s : PutStage = OpenA full in
+  keeps_stage (At (OpenA full)) e h to may =
+      let s : PutStage = At (OpenA full) in
       let m = moves s tt in
       let b = low (full.block + 1) in
       let p = places_OpenA stage g limits front ws vs id v v' side.places long at full e to in
-      let f : PutKnows g front.last (put_cursors g (words_by s)) (RaiseP full) = subst (PutKnows g front.last (put_cursors g (words_by s))) to.stands (p.each id v' (get_set_same vs id v v' at)).knows in
+      let f : PutKnows g front.last (put_cursors g (words_by s)) (At (RaiseP full)) = subst (PutKnows g front.last (put_cursors g (words_by s))) to.stands (p.each id v' (get_set_same vs id v v' at)).knows in
       record {
         to = front;
         further = inl refl;
-        side = both front s p (no_entry s _ _ (RaiseP full) m.grown (omega arith) to tt);
-        manned = works front.next s (RaiseP full) (words_by s) e to.stands p (omega arith) m.grown
+        side = both front s p (no_entry s _ _ (At (RaiseP full)) m.grown (omega arith) to tt);
+        manned = works front.next s (At (RaiseP full)) (words_by s) e to.stands p (omega arith) m.grown
             (⊎_elim (λ z. inr (let y = ap (allocated_word g (words_by s)) z in ⊎_elim (λ q. q.block) (λ q. absurd (omega (arith, q.older, f.1, limits.blocks_from))) p.words.newest)) (λ z. inl (let y = one_apart (full.block + 1) front.last z in omega arith)) (cases_eq (full.block + 1) front.last))
             (inl (omega arith)) (inl (omega arith));
       }
-  keeps_stage (RaiseP full) e h to may =
-      let s : PutStage = RaiseP full in
+  keeps_stage (At (RaiseP full)) e h to may =
+      let s : PutStage = At (RaiseP full) in
       let m = moves s tt in
       let p = places_RaiseP stage g limits front ws vs id v v' side.places long at full e to in
       let is : slice_index (words_by s) 0 ≡ max (slice_index ws 0) (full.block + 1) = get_or-set_same ws 0 _ 0 (let l = long in omega arith) in
       record {
         to = front;
         further = inl refl;
-        side = both front s p (no_entry s 0 _ (HeadP 2 full) m.grown (omega arith) to tt);
-        manned = works front.next s (HeadP 2 full) (words_by s) e to.stands p (omega arith) m.grown (inl (omega arith))
+        side = both front s p (no_entry s 0 _ (At (HeadP 2 full)) m.grown (omega arith) to tt);
+        manned = works front.next s (At (HeadP 2 full)) (words_by s) e to.stands p (omega arith) m.grown (inl (omega arith))
             (⊎_elim (λ z. inr (let y = p.words.head_to in omega (arith, is))) (λ z. inl (let y = one_apart (full.block + 1) front.last z in omega arith)) (cases_eq (full.block + 1) front.last))
             (inl (omega arith));
       }
 
-module _ {P : Type 0} (stage : P → PutStage) (table : Table P) (puts : IsPutTable stage table) (g : Grid) where
-  pub stage_next : (b : After P) → stage_in stage (phase_after b) ≡ stage_after stage b
-  stage_next (Next p) = refl
-  stage_next (Done a) = refl
+-- where a put stands after a step is told by what follows it
+pub stage_next : {P : Type 0} (stage : P → PutStage) (b : After P) → stage_in stage (phase_after b) ≡ stage_after stage b
+stage_next stage (Next p) = refl
+stage_next stage (Done a) = refl
 
+module _ {P : Type 0} (stage : P → PutStage) (table : Table P) (puts : IsPutTable stage table) (g : Grid) where
   -- a shared step that makes nothing
   leaves : (ws : List ℕ) (v : View P) (p : P) (s : PutStage) → stage p ≡ s → IsShared s → IsNoCommit s → (let found = slice_index ws (index (put_want g s v.entry)) in
       Leaves (stage_of stage) v (seen table g v p found) (put_after g s found))
@@ -233,27 +235,27 @@ module _ {P : Type 0} (stage : P → PutStage) (table : Table P) (puts : IsPutTa
       record {
         made = puts.makes_none g p found v.made v.entry (subst IsNoCommit (sym e) none);
         entry = refl;
-        stands = stage_next (table.after g p found) ∙ puts.after g p found (subst IsShared (sym e) shared) ∙ ap (λ (s : PutStage). put_after g s found) e;
+        stands = stage_next stage (table.after g p found) ∙ puts.after g p found (subst IsShared (sym e) shared) ∙ ap (λ (s : PutStage). put_after g s found) e;
       }
 
   -- the shared step leaves the view as the side of puts has it
   did : (ws : List ℕ) (v : View P) (p : P) (s : PutStage) → stage p ≡ s → IsShared s → Did (stage_of stage) g ws v (seen table g v p (slice_index ws (index (put_want g s v.entry)))) s
   did ws v p Away e h = absurd h
   did ws v p (Fills full) e h = absurd h
-  did ws v p (Commit at) e h =
-      let b = puts.commits g p at (slice_index ws (index (put_want g (Commit at) v.entry))) e in
+  did ws v p (At (Commit at)) e h =
+      let b = puts.commits g p at (slice_index ws (index (put_want g (At (Commit at)) v.entry))) e in
       record { made = ap (made_after v.made v.entry) b; entry = refl; stands = ap (λ (b : After P). stage_in stage (phase_after b)) b }
-  did ws v p (HeadP turn first) e h = leaves ws v p (HeadP turn first) e tt tt
-  did ws v p (SeeA turn first head) e h = leaves ws v p (SeeA turn first head) e tt tt
-  did ws v p (AddA turn first head) e h = leaves ws v p (AddA turn first head) e tt tt
-  did ws v p (Write at next) e h = leaves ws v p (Write at next) e tt tt
-  did ws v p (OpenM full) e h = leaves ws v p (OpenM full) e tt tt
-  did ws v p (OpenA full) e h = leaves ws v p (OpenA full) e tt tt
-  did ws v p (RaiseP full) e h = leaves ws v p (RaiseP full) e tt tt
+  did ws v p (At (HeadP turn first)) e h = leaves ws v p (At (HeadP turn first)) e tt tt
+  did ws v p (At (SeeA turn first head)) e h = leaves ws v p (At (SeeA turn first head)) e tt tt
+  did ws v p (At (AddA turn first head)) e h = leaves ws v p (At (AddA turn first head)) e tt tt
+  did ws v p (At (Write at next)) e h = leaves ws v p (At (Write at next)) e tt tt
+  did ws v p (At (OpenM full)) e h = leaves ws v p (At (OpenM full)) e tt tt
+  did ws v p (At (OpenA full)) e h = leaves ws v p (At (OpenA full)) e tt tt
+  did ws v p (At (RaiseP full)) e h = leaves ws v p (At (RaiseP full)) e tt tt
 
   -- a shared step of a put keeps the side of puts, and moves no word that takes move
   pub keeps_shared : IsWithinLimits g → (front : Front) (ws : List ℕ) (vs : List (View P)) (id : ℕ) (v : View P) (p : P) → PutSide (stage_of stage) g front ws vs → front.last < most_block → slice_get vs id ≡ Some v → v.phase ≡ Some p
-      → IsShared (stage p) → ((full : Cursor) → stage p ≡ OpenM full → full.block ≡ front.last → MayOpen g front.last (put_cursors g ws))
+      → IsShared (stage p) → ((full : Cursor) → stage p ≡ At (OpenM full) → full.block ≡ front.last → MayOpen g front.last (put_cursors g ws))
       → IsKept (stage_of stage) g (stage p) front ws (words_after table g ws v p) vs (slice_set vs id (view_after table g ws v p)) × IsMovedByPuts g ws (words_after table g ws v p)
   keeps_shared limits front ws vs id v p side small at e shared may =
       let s : PutStage = stage p in

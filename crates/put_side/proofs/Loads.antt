@@ -9,7 +9,8 @@ use Rattle.cursor_word.specs.declared.cursor.Cursor.{Cursor}
 use Rattle.machine.specs.declared.view.View.{View}
 use Rattle.put_side.specs.Cursors.{Front, PutCursors, allocated_word, put_cursors}
 use Rattle.put_side.specs.Stages.{PutStage, by_room, fills, held}
-use Rattle.put_side.specs.Stages.{Away, HeadP, SeeA, AddA, Fills}
+use Rattle.put_side.specs.declared.put_phase.PutPhase.TheVariants.{HeadP, SeeA, AddA}
+use Rattle.put_side.specs.Stages.{Away, At, Fills}
 use Rattle.put_side.specs.Counts.{one_at}
 use Rattle.put_side.specs.Places.{IsFilled, PutKnows, PutPlaces}
 use Rattle.put_side.proofs.Sums.{by_test}
@@ -33,20 +34,20 @@ module _ {P : Type 0} (stage : View P → PutStage) (g : Grid) (front : Front) (
   loads i s s' e to next =
       subst (λ (l : List ℕ). PutPlaces stage g front (put_cursors g l) (slice_set vs id v')) (sym (set-get_or ws i 0)) (stays stage g front (put_cursors g ws) vs id v v' s s' p at e to.made to.stands next)
 
-  pub places_HeadP : (turn : ℕ) (first : Cursor) → stage v ≡ HeadP turn first → Leaves stage v v' (SeeA turn first (slice_index ws 0)) → PutPlaces stage g front (put_cursors g (slice_set ws 0 (slice_index ws 0))) (slice_set vs id v')
+  pub places_HeadP : (turn : ℕ) (first : Cursor) → stage v ≡ At (HeadP turn first) → Leaves stage v v' (At (SeeA turn first (slice_index ws 0))) → PutPlaces stage g front (put_cursors g (slice_set ws 0 (slice_index ws 0))) (slice_set vs id v')
   places_HeadP turn first e to =
-      loads 0 (HeadP turn first) _ e to record { holds = refl; knows = (knows_at (HeadP turn first) e, record { from = p.words.head_from; to = omega arith }); adds = λ k. inl refl }
+      loads 0 (At (HeadP turn first)) _ e to record { holds = refl; knows = (knows_at (At (HeadP turn first)) e, record { from = p.words.head_from; to = omega arith }); adds = λ k. inl refl }
 
-  pub places_SeeA : IsWithinLimits g → (turn : ℕ) (first : Cursor) (head : ℕ) → stage v ≡ SeeA turn first head → (let i = 2 + 4 * (head % g.blocks) in
-      Leaves stage v v' (by_room g (slice_index ws i) turn (AddA turn first head)) → PutPlaces stage g front (put_cursors g (slice_set ws i (slice_index ws i))) (slice_set vs id v'))
+  pub places_SeeA : IsWithinLimits g → (turn : ℕ) (first : Cursor) (head : ℕ) → stage v ≡ At (SeeA turn first head) → (let i = 2 + 4 * (head % g.blocks) in
+      Leaves stage v v' (by_room g (slice_index ws i) turn (At (AddA turn first head))) → PutPlaces stage g front (put_cursors g (slice_set ws i (slice_index ws i))) (slice_set vs id v'))
   places_SeeA limits turn first head e to =
       let i : ℕ = 2 + 4 * (head % g.blocks) in
-      let f = knows_at (SeeA turn first head) e in
+      let f = knows_at (At (SeeA turn first head)) e in
       let same : IsPhysical g (allocated_word g ws) = physical g ws 2 in
       let is = found p.words limits.blocks_from same head f.1.to in
       let w : ℕ = slice_index ws i in
-      let next : IsNext g front.last (put_cursors g ws) [] (by_room g w turn (AddA turn first head)) =
-      by_test (w % offset_span) g.size (λ b. IsNext g front.last (put_cursors g ws) [] (if b then AddA turn first head else fills turn (unpacked w)))
+      let next : IsNext g front.last (put_cursors g ws) [] (by_room g w turn (At (AddA turn first head))) =
+      by_test (w % offset_span) g.size (λ b. IsNext g front.last (put_cursors g ws) [] (if b then At (AddA turn first head) else fills turn (unpacked w)))
       (λ l. record { holds = refl; knows = f; adds = λ k. ⊎_elim (λ z. inl z) (λ z. inr (let x = same head k z in omega arith)) (one_or_same (head % g.blocks) (k % g.blocks)) })
       (λ l. fills_next g front.last (put_cursors g ws) (turn == 1) (unpacked w) (found_filled (put_cursors g ws) head same f.1.from is l)) in
-      loads i (SeeA turn first head) _ e to next
+      loads i (At (SeeA turn first head)) _ e to next

@@ -10,7 +10,8 @@ use Rattle.machine.specs.Ops.{index, moved}
 use Rattle.machine.specs.declared.view.View.{View}
 use Rattle.put_side.specs.Cursors.{Front, allocated_word, committed_word, put_cursors}
 use Rattle.put_side.specs.Stages.{PutStage, put_want}
-use Rattle.put_side.specs.Stages.{Away, HeadP, SeeA, AddA, Write, Commit, Fills, OpenM, OpenA, RaiseP}
+use Rattle.put_side.specs.declared.put_phase.PutPhase.TheVariants.{HeadP, SeeA, AddA, Write, Commit, OpenM, OpenA, RaiseP}
+use Rattle.put_side.specs.Stages.{Away, At, Fills}
 use Rattle.put_side.specs.PutTable.{IsShared}
 use Rattle.put_side.specs.Places.{PutPlaces}
 use Rattle.put_side.proofs.Facts.{allocated_below, committed_below, physical}
@@ -61,14 +62,14 @@ module _ {P : Type 0} (stage : View P → PutStage) (g : Grid) (limits : IsWithi
 
   pub moves_by : (s : PutStage) (entry : List ℕ) → IsShared s → IsMovedByPuts g ws (after_op ws (put_want g s entry))
   moves_by Away entry h = absurd h
-  moves_by (HeadP turn first) entry h = raises g ws 0 _ (omega arith) (omega arith) (λ e. omega arith) (λ k. (λ e. omega arith, λ e. omega arith))
-  moves_by (SeeA turn first head) entry h = let m = low head in raises g ws _ _ (omega arith) (omega arith) (λ e. omega arith) (λ k. (λ e. omega arith, λ e. omega arith))
-  moves_by (AddA turn first head) entry h = let m = low head in let b = allocated_below p.words limits.blocks_from (physical g ws 2) head in
+  moves_by (At (HeadP turn first)) entry h = raises g ws 0 _ (omega arith) (omega arith) (λ e. omega arith) (λ k. (λ e. omega arith, λ e. omega arith))
+  moves_by (At (SeeA turn first head)) entry h = let m = low head in raises g ws _ _ (omega arith) (omega arith) (λ e. omega arith) (λ k. (λ e. omega arith, λ e. omega arith))
+  moves_by (At (AddA turn first head)) entry h = let m = low head in let b = allocated_below p.words limits.blocks_from (physical g ws 2) head in
       raises g ws _ _ (omega arith) (add_up (allocated_word g ws head) b) (λ e. omega arith) (λ k. (λ e. omega arith, λ e. omega arith))
-  moves_by (Write at next) entry h = stores g ws _ _ (omega (arith, limits.blocks_from)) (omega arith)
-  moves_by (Commit at) entry h = let m = low at.block in let b = committed_below p.words limits.blocks_from (physical g ws 3) at.block in
+  moves_by (At (Write at next)) entry h = stores g ws _ _ (omega (arith, limits.blocks_from)) (omega arith)
+  moves_by (At (Commit at)) entry h = let m = low at.block in let b = committed_below p.words limits.blocks_from (physical g ws 3) at.block in
       raises g ws _ _ (omega arith) (add_up (committed_word g ws at.block) b) (λ e. omega arith) (λ k. (λ e. omega arith, λ e. omega arith))
   moves_by (Fills full) entry h = absurd h
-  moves_by (OpenM full) entry h = let m = low (full.block + 1) in raises g ws _ _ (omega arith) (omega arith) (λ e. omega arith) (λ k. (λ e. omega arith, λ e. omega arith))
-  moves_by (OpenA full) entry h = let m = low (full.block + 1) in raises g ws _ _ (omega arith) (omega arith) (λ e. omega arith) (λ k. (λ e. omega arith, λ e. omega arith))
-  moves_by (RaiseP full) entry h = raises g ws _ _ (omega arith) (omega arith) (λ e. omega arith) (λ k. (λ e. omega arith, λ e. omega arith))
+  moves_by (At (OpenM full)) entry h = let m = low (full.block + 1) in raises g ws _ _ (omega arith) (omega arith) (λ e. omega arith) (λ k. (λ e. omega arith, λ e. omega arith))
+  moves_by (At (OpenA full)) entry h = let m = low (full.block + 1) in raises g ws _ _ (omega arith) (omega arith) (λ e. omega arith) (λ k. (λ e. omega arith, λ e. omega arith))
+  moves_by (At (RaiseP full)) entry h = raises g ws _ _ (omega arith) (omega arith) (λ e. omega arith) (λ k. (λ e. omega arith, λ e. omega arith))

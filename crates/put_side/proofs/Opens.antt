@@ -15,8 +15,10 @@ use Rattle.rail.specs.Items.{IsRising, places}
 use Rattle.machine.specs.declared.view.View.{View}
 use Rattle.machine.proofs.Lists.{sum_set}
 use Rattle.put_side.specs.Cursors.{Front, PutCursors, allocated_word, committed_word, place, put_cursors}
-use Rattle.put_side.specs.Stages.{PutStage, held, next_block}
-use Rattle.put_side.specs.Stages.{Write, Commit, OpenM, OpenA}
+use Rattle.put_side.specs.PutSteps.{next_block}
+use Rattle.put_side.specs.Stages.{PutStage, held}
+use Rattle.put_side.specs.declared.put_phase.PutPhase.TheVariants.{Write, Commit, OpenM, OpenA}
+use Rattle.put_side.specs.Stages.{At}
 use Rattle.put_side.specs.Counts.{adds, adds_in, claim_count, claimed, claims, makes, sum_below, times}
 use Rattle.put_side.specs.Places.{IsCurrent, PutFits, PutKnows, PutPlaces}
 use Rattle.put_side.specs.PutTable.{MayOpen}
@@ -32,8 +34,8 @@ current_opens g last at c n = record { from = c.from; to = omega (arith, c.to); 
 
 -- what a seat remembers stays where a block is opened
 knows_opens : (g : Grid) (last : ℕ) (cs : PutCursors) (s : PutStage) → ((at : Cursor) → held g s ≡ place_at g at ∷ [] → IsCurrent g last at → at.block + g.blocks ≢ last + 1) → PutKnows g last cs s → PutKnows g (last + 1) cs s
-knows_opens g last cs (Write at next) n f = (current_opens g last at f.0 (n at refl f.0), f.1)
-knows_opens g last cs (Commit at) n f = current_opens g last at f (n at refl f)
+knows_opens g last cs (At (Write at next)) n f = (current_opens g last at f.0 (n at refl f.0), f.1)
+knows_opens g last cs (At (Commit at)) n f = current_opens g last at f (n at refl f)
 knows_opens g last cs s n f = f
 
 module _ {P : Type 0} (stage : View P → PutStage) (g : Grid) (limits : IsWithinLimits g) (front : Front) (ws : List ℕ) (vs : List (View P)) (p : PutPlaces stage g front (put_cursors g ws) vs) where
@@ -44,7 +46,7 @@ module _ {P : Type 0} (stage : View P → PutStage) (g : Grid) (limits : IsWithi
       let none = held_not_made stage g front (put_cursors g ws) vs p j u at there holds in
       let room = upto_misses g.size at.offset (λ o. sum_by (makes (place g at.block o)) vs) (λ o. made_once stage g front (put_cursors g ws) vs p _) cur.within none in omega arith
 
-  module _ (long : 2 + 4 * g.blocks ≤ length ws) (id : ℕ) (v v' : View P) (at : slice_get vs id ≡ Some v) (full : Cursor) (e : stage v ≡ OpenM full) (to : Leaves stage v v' (OpenA full)) where
+  module _ (long : 2 + 4 * g.blocks ≤ length ws) (id : ℕ) (v v' : View P) (at : slice_get vs id ≡ Some v) (full : Cursor) (e : stage v ≡ At (OpenM full)) (to : Leaves stage v v' (At (OpenA full))) where
     abbrev word : ℕ
     word = slice_index ws (3 + 4 * ((full.block + 1) % g.blocks))
 
@@ -58,7 +60,7 @@ module _ {P : Type 0} (stage : View P → PutStage) (g : Grid) (limits : IsWithi
         let cs : PutCursors = put_cursors g ws in
         let own = p.each id v at in
         let s = p.words in
-        let f = knows_at stage g front ws vs id v v' p at (OpenM full) e in
+        let f = knows_at stage g front ws vs id v v' p at (At (OpenM full)) e in
         let h : ℕ = full.block + 1 in
         let i : ℕ = 3 + 4 * (h % g.blocks) in
         let old : ℕ = word in
@@ -87,8 +89,8 @@ module _ {P : Type 0} (stage : View P → PutStage) (g : Grid) (limits : IsWithi
         let grown : IsGrown cs cs' = record { producer = omega arith; allocated = λ k. omega arith; committed = λ k. raised_to ws i x _ within (omega arith) } in
         let old_A = s.full j (omega arith) (omega arith) in
         let at_A : allocated_word g ws j ≡ allocated_word g ws (last + 1) = physical g ws 2 j (last + 1) turn in
-        let mine : claimed stage g v ≡ places v.made = claims_none stage g v (OpenM full) e refl in
-        let mine' : claimed stage g v' ≡ places v.made = claims_none stage g v' (OpenA full) to.stands refl ∙ ap (λ (l : List Placed). places l) to.made in
+        let mine : claimed stage g v ≡ places v.made = claims_none stage g v (At (OpenM full)) e refl in
+        let mine' : claimed stage g v' ≡ places v.made = claims_none stage g v' (At (OpenA full)) to.stands refl ∙ ap (λ (l : List Placed). places l) to.made in
         let same : claimed stage g v' ≡ claimed stage g v = mine' ∙ sym mine in
         let makes_same : (q : ℕ) → sum_by (makes q) (slice_set vs id v') ≡ sum_by (makes q) vs = λ q. sum_same (makes q) vs id v v' at (ap (λ (l : List Placed). times q (places l)) to.made) in
         let none : (o : ℕ) → sum_by (makes (place g (last + 1) o)) vs ≡ 0 = λ o. let y = sum_by-le-sum_by (makes (place g (last + 1) o)) (claims stage g (place g (last + 1) o)) vs (makes_le stage g _) in
@@ -137,7 +139,7 @@ module _ {P : Type 0} (stage : View P → PutStage) (g : Grid) (limits : IsWithi
     -- the next block is opened, or was
     pub places_OpenM : (full.block ≡ front.last → MayOpen g front.last (put_cursors g ws)) → (k : ℕ) × ((k ≡ front.last) ⊎ ((k ≡ front.last + 1) × (full.block ≡ front.last))) × PutPlaces stage g (with_last front k) (put_cursors g words') (slice_set vs id v')
     places_OpenM may =
-        let f = knows_at stage g front ws vs id v v' p at (OpenM full) e in
+        let f = knows_at stage g front ws vs id v v' p at (At (OpenM full)) e in
         let b = filled_opened p.words limits.blocks_from (physical g ws 2) full f in
         let h : ℕ = full.block + 1 in
         let i : ℕ = 3 + 4 * (h % g.blocks) in
@@ -151,6 +153,6 @@ module _ {P : Type 0} (stage : View P → PutStage) (g : Grid) (limits : IsWithi
           front.last,
           inl refl,
           subst (λ (y : ℕ). PutPlaces stage g front (put_cursors g (slice_set ws i y)) (slice_set vs id v')) z
-              (loads stage g front ws vs id v v' p at i (OpenM full) (OpenA full) e to record { holds = refl; knows = (f, le); adds = λ k. inl refl }),
+              (loads stage g front ws vs id v v' p at i (At (OpenM full)) (At (OpenA full)) e to record { holds = refl; knows = (f, le); adds = λ k. inl refl }),
         ))
         (cases_lt front.last h)

@@ -5,7 +5,8 @@ use Rattle.cursor_word.specs.Shape.{Grid}
 use Rattle.machine.specs.declared.view.View.{View}
 use Rattle.put_side.specs.Cursors.{Front, PutCursors, allocated_word, committed_word, put_cursors}
 use Rattle.put_side.specs.Stages.{PutStage, held}
-use Rattle.put_side.specs.Stages.{Write, Commit}
+use Rattle.put_side.specs.declared.put_phase.PutPhase.TheVariants.{Write, Commit}
+use Rattle.put_side.specs.Stages.{At}
 use Rattle.put_side.specs.Places.{PutPlaces}
 use Rattle.put_side.specs.Entries.{HoldsWords}
 use Rattle.put_side.specs.PutSide.{PutSide}
@@ -24,8 +25,8 @@ pub record KeepsPutWords (g : Grid) (ws ws' : List ℕ) : Type 0 where
   pub entries : KeepsEntries g ws ws'
 
 pub no_words : (g : Grid) (ws entry : List ℕ) (s : PutStage) → held g s ≡ [] → HoldsWords g ws entry s
-no_words g ws entry (Write at next) h = cc
-no_words g ws entry (Commit at) h = cc
+no_words g ws entry (At (Write at next)) h = cc
+no_words g ws entry (At (Commit at)) h = cc
 no_words g ws entry s h = tt
 
 module _ {P : Type 0} (stage : View P → PutStage) (g : Grid) (front : Front) (ws ws' : List ℕ) (vs : List (View P)) (id : ℕ) (v v' : View P) (s s' : PutStage) (at : slice_get vs id ≡ Some v) (e : stage v ≡ s) (keeps : KeepsPutWords g ws ws') where

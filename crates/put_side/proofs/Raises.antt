@@ -11,8 +11,10 @@ use Rattle.cursor_word.specs.declared.cursor.Cursor.{Cursor}
 use Rattle.cursor_word.proofs.Blocks.{latest, latest_is, same_block, same_near}
 use Rattle.machine.specs.declared.view.View.{View}
 use Rattle.put_side.specs.Cursors.{Front, IsHalfOpen, IsOpen, PutCursors, PutWords, allocated_word, place, put_cursors}
-use Rattle.put_side.specs.Stages.{PutStage, next_block}
-use Rattle.put_side.specs.Stages.{HeadP, OpenA, RaiseP}
+use Rattle.put_side.specs.PutSteps.{next_block}
+use Rattle.put_side.specs.Stages.{PutStage}
+use Rattle.put_side.specs.declared.put_phase.PutPhase.TheVariants.{HeadP, OpenA, RaiseP}
+use Rattle.put_side.specs.Stages.{At}
 use Rattle.put_side.specs.Places.{PutPlaces}
 use Rattle.put_side.proofs.Facts.{IsPhysical, allocated_below, committed_below, cursors_are, physical, with_allocated, with_producer}
 use Rattle.put_side.proofs.Frames.{IsGrown, Leaves, filled_grows, quiet}
@@ -40,11 +42,11 @@ lags {g} {front} {cs} w two same h le old =
 module _ {P : Type 0} (stage : View P → PutStage) (g : Grid) (limits : IsWithinLimits g) (front : Front) (ws : List ℕ) (vs : List (View P)) (id : ℕ) (v v' : View P) (p : PutPlaces stage g front (put_cursors g ws) vs) (long : 2 + 4 * g.blocks ≤ length ws)
     (at : slice_get vs id ≡ Some v) (full : Cursor) where
   -- the producer head is raised
-  pub places_RaiseP : stage v ≡ RaiseP full → Leaves stage v v' (HeadP 2 full) → PutPlaces stage g front (put_cursors g (slice_set ws 0 (max (slice_index ws 0) (full.block + 1)))) (slice_set vs id v')
+  pub places_RaiseP : stage v ≡ At (RaiseP full) → Leaves stage v v' (At (HeadP 2 full)) → PutPlaces stage g front (put_cursors g (slice_set ws 0 (max (slice_index ws 0) (full.block + 1)))) (slice_set vs id v')
   places_RaiseP e to =
       let cs : PutCursors = put_cursors g ws in
       let s = p.words in
-      let f = knows_at stage g front ws vs id v v' p at (RaiseP full) e in
+      let f = knows_at stage g front ws vs id v v' p at (At (RaiseP full)) e in
       let x : ℕ = max (slice_index ws 0) (full.block + 1) in
       let ws' : List ℕ = slice_set ws 0 x in
       let other : (j : ℕ) → 0 < j → slice_index ws' j ≡ slice_index ws j = λ j h. get_or-set_other ws 0 j x 0 (λ q. omega arith) in
@@ -59,17 +61,17 @@ module _ {P : Type 0} (stage : View P → PutStage) (g : Grid) (limits : IsWithi
       let words : PutWords g front (with_producer cs x) = record { from = s.from; head_from = omega (arith, s.head_from); head_to = omega (arith, s.head_to); committed = s.committed; full = s.full; newest = top } in
       subst (λ (c : PutCursors). PutPlaces stage g front c (slice_set vs id v'))
       (cursors_are g ws' (with_producer cs x) (get_or-set_same ws 0 x 0 (omega arith)) (λ k. other _ (omega arith)) (λ k. other _ (omega arith)))
-      (quiet stage g front cs vs id v v' (RaiseP full) (HeadP 2 full) p at e to.made to.stands (with_producer cs x) record { producer = omega arith; allocated = λ k. omega arith; committed = λ k. omega arith } (λ k. refl) words
+      (quiet stage g front cs vs id v v' (At (RaiseP full)) (At (HeadP 2 full)) p at e to.made to.stands (with_producer cs x) record { producer = omega arith; allocated = λ k. omega arith; committed = λ k. omega arith } (λ k. refl) words
       (λ k l n. inl (omega arith))
       record { holds = refl; knows = inr record { is = refl; from = f.0.from; filled = f.0.filled; below = omega arith }; adds = λ k. inl refl })
 
   -- the allocated cursor of the next block is opened
-  pub places_OpenA : stage v ≡ OpenA full → Leaves stage v v' (RaiseP full) → (let i = 2 + 4 * ((full.block + 1) % g.blocks) in
+  pub places_OpenA : stage v ≡ At (OpenA full) → Leaves stage v v' (At (RaiseP full)) → (let i = 2 + 4 * ((full.block + 1) % g.blocks) in
       PutPlaces stage g front (put_cursors g (slice_set ws i (max (slice_index ws i) (next_block full)))) (slice_set vs id v'))
   places_OpenA e to =
       let cs : PutCursors = put_cursors g ws in
       let s = p.words in
-      let f = knows_at stage g front ws vs id v v' p at (OpenA full) e in
+      let f = knows_at stage g front ws vs id v v' p at (At (OpenA full)) e in
       let h : ℕ = full.block + 1 in
       let i : ℕ = 2 + 4 * (h % g.blocks) in
       let old : ℕ = slice_index ws i in
@@ -97,10 +99,10 @@ module _ {P : Type 0} (stage : View P → PutStage) (g : Grid) (limits : IsWithi
       } in
       subst (λ (c : PutCursors). PutPlaces stage g front c (slice_set vs id v'))
       (cursors_are g ws' cs' (get_or-set_other ws i 0 x 0 (λ r. omega arith)) (λ k. refl) (λ k. get_or-set_other ws i _ x 0 (λ r. omega arith)))
-      (quiet stage g front cs vs id v v' (OpenA full) (RaiseP full) p at e to.made to.stands cs' more (λ k. refl) words
+      (quiet stage g front cs vs id v v' (At (OpenA full)) (At (RaiseP full)) p at e to.made to.stands cs' more (λ k. refl) words
       (λ k l r. ⊎_elim (λ q. inr (let z = is k q in omega (arith, limits.size_from))) (λ q. inl (let z = other k q in omega arith)) (cases_eq (k % g.blocks) (h % g.blocks)))
       record { holds = refl; knows = (filled_grows g front.last cs cs' more full f.0, let z = is h refl in omega arith); adds = λ k. inl refl }))
       (λ n. let z : old ≡ x = omega arith in
       subst (λ (y : ℕ). PutPlaces stage g front (put_cursors g (slice_set ws i y)) (slice_set vs id v')) z
-      (loads stage g front ws vs id v v' p at i (OpenA full) (RaiseP full) e to record { holds = refl; knows = (f.0, n); adds = λ k. inl refl }))
+      (loads stage g front ws vs id v v' p at i (At (OpenA full)) (At (RaiseP full)) e to record { holds = refl; knows = (f.0, n); adds = λ k. inl refl }))
       (cases_lt old (h * offset_span))

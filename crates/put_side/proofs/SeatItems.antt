@@ -1,7 +1,7 @@
 -- What a seat's own lists show where its call answers.
 use Rattle.std.proofs.Common.{◌≡◌, ◌≢◌, ℕ, zero, suc, ◌+◌, ◌<◌, ◌≤◌, ◌⊎◌, List, [], ◌∷◌, ◌++◌, cond, length, refl, sym, ap, ◌∙◌, subst, inl, inr, ⊎_elim, arith}
-use Rattle.std.specs.Prelude.{Option, Some, slice_get, ◌==◌}
-use Rattle.std.specs.List.{AllByRecursion, Contains, sum_by}
+use Rattle.std.specs.Prelude.{Some, slice_get, ◌==◌}
+use Rattle.std.specs.List.{AllByRecursion, Contains}
 use Rattle.std.proofs.lemmas.Bool.{cases_eq}
 use Rattle.std.proofs.lemmas.Bool.Decides.{nat_tests}
 use Rattle.std.proofs.lemmas.List.{length-append}
@@ -22,7 +22,8 @@ use Rattle.machine.specs.Steps.{made_after}
 use Rattle.machine.proofs.Lists.{one_le_sum}
 use Rattle.put_side.specs.Cursors.{Front, PutCursors}
 use Rattle.put_side.specs.Stages.{PutStage, held}
-use Rattle.put_side.specs.Stages.{Commit}
+use Rattle.put_side.specs.declared.put_phase.PutPhase.TheVariants.{Commit}
+use Rattle.put_side.specs.Stages.{At}
 use Rattle.put_side.specs.Counts.{makes, one_at, times}
 use Rattle.put_side.specs.Entries.{IsMade}
 use Rattle.put_side.specs.Places.{PutPlaces}
@@ -89,8 +90,8 @@ module _ {P : Type 0} (stage : View P → PutStage) (g : Grid) (front : Front) (
       (cases_eq made.seat id) in
       ap (λ (x : Placed). x.words) same
 
-commits_or : (s : PutStage) → IsNoCommit s ⊎ ((at : Cursor) × (s ≡ Commit at))
-commits_or (Commit at) = inr (at, refl)
+commits_or : (s : PutStage) → IsNoCommit s ⊎ ((at : Cursor) × (s ≡ At (Commit at)))
+commits_or (At (Commit at)) = inr (at, refl)
 commits_or s = inl tt
 
 -- an item more makes a list longer
@@ -104,7 +105,7 @@ module _ {P : Type 0} (stage : P → PutStage) (table : Table P) (puts : IsPutTa
       ⊎_elim
       (λ none. absurd (longer v.made (placed place v.entry) (sym (ap (made_after v.made v.entry) is) ∙ puts.makes_none g p found v.made v.entry none)))
       (λ some. let at : place_at g some.0 ≡ place = let q = sym (puts.commits g p some.0 found some.1) ∙ is in cc in
-      let stands : stage_in stage v.phase ≡ Commit some.0 = ap (stage_in stage) e ∙ some.1 in
+      let stands : stage_in stage v.phase ≡ At (Commit some.0) = ap (stage_in stage) e ∙ some.1 in
       let claim : places v.made ++ held g (stage_in stage v.phase) ≡ places v.made ++ place ∷ [] = ap (λ (s : PutStage). places v.made ++ held g s) stands ∙ ap (λ (q : ℕ). places v.made ++ q ∷ []) at in
       gains v.made (placed place v.entry) (subst IsRising claim (side.each id v here).rising))
       (commits_or (stage p))

@@ -18,7 +18,8 @@ use Rattle.machine.specs.declared.view.View.{View}
 use Rattle.machine.proofs.Lists.{one_le_sum}
 use Rattle.put_side.specs.Cursors.{Front, PutCursors, allocated_word, put_cursors}
 use Rattle.put_side.specs.Stages.{PutStage, held, put_after}
-use Rattle.put_side.specs.Stages.{Write, Commit}
+use Rattle.put_side.specs.declared.put_phase.PutPhase.TheVariants.{Write, Commit}
+use Rattle.put_side.specs.Stages.{At}
 use Rattle.put_side.specs.Counts.{adds_in, claimed, claims, makes, one_at, one_below, times}
 use Rattle.put_side.specs.Places.{IsCurrent, PutKnows, PutPlaces}
 use Rattle.put_side.specs.Entries.{HasWords, HoldsWords, IsPresent}
@@ -60,8 +61,8 @@ words_stay g ws at next value from entry n la ln lo le far has w h =
 held_stays : (g : Grid) (last : ℕ) (cs : PutCursors) (ws : List ℕ) (at : Cursor) (next value : ℕ) (entry : List ℕ) (s : PutStage) → at.offset < g.size → next < g.width
     → ((to : Cursor) → held g s ≡ place_at g to ∷ [] → IsCurrent g last to → AreApart g to at)
     → PutKnows g last cs s → HoldsWords g ws entry s → HoldsWords g (slice_set ws (entry_index g (at.block % g.blocks) at.offset next) value) entry s
-held_stays g last cs ws at next value entry (Write to n) la ln far f h = let c = f.0 in words_stay g ws at next value to entry n la ln (omega (arith, c.within)) (omega (arith, f.1)) (far to refl f.0) h
-held_stays g last cs ws at next value entry (Commit to) la ln far f h = words_stay g ws at next value to entry g.width la ln (omega (arith, f.within)) (omega arith) (far to refl f) h
+held_stays g last cs ws at next value entry (At (Write to n)) la ln far f h = let c = f.0 in words_stay g ws at next value to entry n la ln (omega (arith, c.within)) (omega (arith, f.1)) (far to refl f.0) h
+held_stays g last cs ws at next value entry (At (Commit to)) la ln far f h = words_stay g ws at next value to entry g.width la ln (omega (arith, f.within)) (omega arith) (far to refl f) h
 held_stays g last cs ws at next value entry s la ln far f h = tt
 
 module _ {P : Type 0} (stage : View P → PutStage) (g : Grid) (limits : IsWithinLimits g) (front : Front) (ws : List ℕ) (vs : List (View P)) (p : PutPlaces stage g front (put_cursors g ws) vs) where
@@ -88,23 +89,23 @@ module _ {P : Type 0} (stage : View P → PutStage) (g : Grid) (limits : IsWithi
       ⊎_elim (λ q. omega (arith, q.block)) (λ q. absurd (omega (arith, q.at))) w.newest)
       (cases_lt at.block front.last)
 
-  module _ (id : ℕ) (v v' : View P) (here : slice_get vs id ≡ Some v) (at : Cursor) (next : ℕ) (e : stage v ≡ Write at next) where
+  module _ (id : ℕ) (v v' : View P) (here : slice_get vs id ≡ Some v) (at : Cursor) (next : ℕ) (e : stage v ≡ At (Write at next)) where
     -- the stages that may come next hold the same place
-    next_stage : (s : PutStage) → held g s ≡ place_at g at ∷ [] → ((r : ℕ) → adds_in g r s ≡ 0) → PutKnows g front.last (put_cursors g ws) s → IsNext g front.last (put_cursors g ws) (held g (Write at next)) s
+    next_stage : (s : PutStage) → held g s ≡ place_at g at ∷ [] → ((r : ℕ) → adds_in g r s ≡ 0) → PutKnows g front.last (put_cursors g ws) s → IsNext g front.last (put_cursors g ws) (held g (At (Write at next))) s
     next_stage s holds none knows = record { holds = holds; knows = knows; adds = λ k. inl (none (k % g.blocks)) }
 
-    pub places_Write : (long : 2 + 4 * g.blocks ≤ length ws) → (value : ℕ) → Leaves stage v v' (put_after g (Write at next) 0)
+    pub places_Write : (long : 2 + 4 * g.blocks ≤ length ws) → (value : ℕ) → Leaves stage v v' (put_after g (At (Write at next)) 0)
         → PutPlaces stage g front (put_cursors g (slice_set ws (entry_index g (at.block % g.blocks) at.offset next) value)) (slice_set vs id v')
     places_Write long value to =
         let i : ℕ = entry_index g (at.block % g.blocks) at.offset next in
-        let f = knows_at stage g front ws vs id v v' p here (Write at next) e in
+        let f = knows_at stage g front ws vs id v v' p here (At (Write at next)) e in
         let same : (j : ℕ) → j < 2 + 4 * g.blocks → slice_index (slice_set ws i value) j ≡ slice_index ws j = λ j l. get_or-set_other ws i j value 0 (λ r. omega arith) in
         let low : (k : ℕ) → k % g.blocks < g.blocks = λ k. mod_below k g.blocks (omega (arith, limits.blocks_from)) in
         subst (λ (c : PutCursors). PutPlaces stage g front c (slice_set vs id v'))
         (cursors_are g (slice_set ws i value) (put_cursors g ws) (same 0 (omega arith)) (λ k. let l = low k in same _ (omega arith)) (λ k. let l = low k in same _ (omega arith)))
-        (by_test (next + 1) g.width (λ b. Leaves stage v v' (if b then Write at (next + 1) else Commit at) → PutPlaces stage g front (put_cursors g ws) (slice_set vs id v'))
-        (λ l to. stays stage g front (put_cursors g ws) vs id v v' (Write at next) _ p here e to.made to.stands (next_stage (Write at (next + 1)) refl (λ r. refl) (f.0, l)))
-        (λ l to. stays stage g front (put_cursors g ws) vs id v v' (Write at next) _ p here e to.made to.stands (next_stage (Commit at) refl (λ r. refl) f.0))
+        (by_test (next + 1) g.width (λ b. Leaves stage v v' (if b then At (Write at (next + 1)) else At (Commit at)) → PutPlaces stage g front (put_cursors g ws) (slice_set vs id v'))
+        (λ l to. stays stage g front (put_cursors g ws) vs id v v' (At (Write at next)) _ p here e to.made to.stands (next_stage (At (Write at (next + 1))) refl (λ r. refl) (f.0, l)))
+        (λ l to. stays stage g front (put_cursors g ws) vs id v v' (At (Write at next)) _ p here e to.made to.stands (next_stage (At (Commit at)) refl (λ r. refl) f.0))
         to)
 
     module _ (all : AllHaveEntries stage g (allocated_word g ws) ws vs) where
@@ -116,7 +117,7 @@ module _ {P : Type 0} (stage : View P → PutStage) (g : Grid) (limits : IsWithi
           let ws' : List ℕ = slice_set ws i value in
           let q : ℕ = place_at g at in
           let own = all id v here in
-          let f = knows_at stage g front ws vs id v v' p here (Write at next) e in
+          let f = knows_at stage g front ws vs id v v' p here (At (Write at next)) e in
           let cur = f.0 in
           let low : (k : ℕ) → k % g.blocks < g.blocks = λ k. mod_below k g.blocks (omega (arith, limits.blocks_from)) in
           let sa : (k : ℕ) → allocated_word g ws' k ≡ allocated_word g ws k = λ k. let l = low k in get_or-set_other ws i _ value 0 (λ r. omega arith) in
@@ -158,20 +159,20 @@ module _ {P : Type 0} (stage : View P → PutStage) (g : Grid) (limits : IsWithi
             made_words = λ j item h. made_stay id v here j item (ap (λ (l : List Placed). slice_get l j) (sym to.made) ∙ h);
           }
 
-      pub entries_Write : length ws ≡ word_count g → Leaves stage v v' (put_after g (Write at next) 0) → (let value = slice_index v.entry next in let ws' = slice_set ws (entry_index g (at.block % g.blocks) at.offset next) value in
+      pub entries_Write : length ws ≡ word_count g → Leaves stage v v' (put_after g (At (Write at next)) 0) → (let value = slice_index v.entry next in let ws' = slice_set ws (entry_index g (at.block % g.blocks) at.offset next) value in
           AllHaveEntries stage g (allocated_word g ws') ws' (slice_set vs id v'))
       entries_Write long to =
           let value : ℕ = slice_index v.entry next in
           let i : ℕ = entry_index g (at.block % g.blocks) at.offset next in
           let ws' : List ℕ = slice_set ws i value in
-          let f = knows_at stage g front ws vs id v v' p here (Write at next) e in
+          let f = knows_at stage g front ws vs id v v' p here (At (Write at next)) e in
           let written : HasWords g ws at v.entry next = subst (HoldsWords g ws v.entry) e (all id v here).held_words in
           let low = mod_below at.block g.blocks (omega (arith, limits.blocks_from)) in
           let within : i < length ws = let w = entry_word_within (at.block % g.blocks) at.offset next g.blocks g.size g.width low f.0.within f.1 in omega arith in
           let more : HasWords g ws' at v.entry (next + 1) = λ w h.
           ⊎_elim (λ q. get_or-set_other ws i _ value 0 (λ r. omega arith) ∙ written w q)
           (λ q. let z : w ≡ next = omega arith in subst (λ (k : ℕ). slice_index ws' (entry_index g (at.block % g.blocks) at.offset k) ≡ slice_index v.entry k) (sym z) (get_or-set_same ws i value 0 within)) (cases_lt w next) in
-          by_test (next + 1) g.width (λ b. Leaves stage v v' (if b then Write at (next + 1) else Commit at) → AllHaveEntries stage g (allocated_word g ws') ws' (slice_set vs id v'))
-          (λ l to. stores value (Write at (next + 1)) to more)
-          (λ l to. let z : next + 1 ≡ g.width = omega (arith, f.1) in stores value (Commit at) to (subst (HasWords g ws' at v.entry) z more))
+          by_test (next + 1) g.width (λ b. Leaves stage v v' (if b then At (Write at (next + 1)) else At (Commit at)) → AllHaveEntries stage g (allocated_word g ws') ws' (slice_set vs id v'))
+          (λ l to. stores value (At (Write at (next + 1))) to more)
+          (λ l to. let z : next + 1 ≡ g.width = omega (arith, f.1) in stores value (At (Commit at)) to (subst (HasWords g ws' at v.entry) z more))
           to

@@ -8,7 +8,8 @@ use Rattle.rail.specs.Items.{places}
 use Rattle.machine.specs.declared.view.View.{View}
 use Rattle.put_side.specs.Cursors.{Front, PutCursors, place}
 use Rattle.put_side.specs.Stages.{PutStage, held}
-use Rattle.put_side.specs.Stages.{AddA}
+use Rattle.put_side.specs.declared.put_phase.PutPhase.TheVariants.{AddA}
+use Rattle.put_side.specs.Stages.{At}
 
 -- the sum of f over the numbers below n
 abbrev pub sum_below : ℕ → (ℕ → ℕ) → ℕ
@@ -33,7 +34,7 @@ makes p view = times p (places view.made)
 
 -- 1 for a seat that is about to add to the allocated cursor of this physical block, else 0
 abbrev pub adds_in : Grid → ℕ → PutStage → ℕ
-adds_in shape physical (AddA turn first head) = one_at (head % shape.blocks) physical
+adds_in shape physical (At (AddA turn first head)) = one_at (head % shape.blocks) physical
 adds_in shape physical stage = 0
 
 -- stage tells where the put of a seat with this view stands

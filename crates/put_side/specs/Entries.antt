@@ -7,7 +7,8 @@ use Rattle.cursor_word.specs.declared.cursor.Cursor.{Cursor}
 use Rattle.rail.specs.declared.entry.Placed.{Placed}
 use Rattle.machine.specs.declared.view.View.{View}
 use Rattle.put_side.specs.Stages.{PutStage}
-use Rattle.put_side.specs.Stages.{Write, Commit}
+use Rattle.put_side.specs.declared.put_phase.PutPhase.TheVariants.{Write, Commit}
+use Rattle.put_side.specs.Stages.{At}
 
 -- the item stands in the made list of some seat
 pub record IsMade {P : Type 0} (views : List (View P)) (item : Placed) : Type 0 where
@@ -31,8 +32,8 @@ IsPresent allocated block = allocated block < (block + 1) * offset_span
 
 -- what a put has written of the entry in hand
 abbrev pub HoldsWords : Grid → List ℕ → List ℕ → PutStage → Type 0
-HoldsWords shape words entry (Write at next) = HasWords shape words at entry next
-HoldsWords shape words entry (Commit at) = HasWords shape words at entry shape.width
+HoldsWords shape words entry (At (Write at next)) = HasWords shape words at entry next
+HoldsWords shape words entry (At (Commit at)) = HasWords shape words at entry shape.width
 HoldsWords shape words entry stage = Unit {0}
 
 -- the entries of one seat: the one in hand as far as it is written, and those made, while their

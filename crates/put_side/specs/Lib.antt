@@ -1,11 +1,16 @@
 pub mod Cursors
+pub mod PutSteps
 pub mod Stages
 pub mod Counts
 pub mod Places
 pub mod Entries
 pub mod PutSide
 pub mod PutTable
+pub mod SharesSteps
 pub mod Manned
 pub mod Gathered
 pub mod Settled
 pub mod Laws
+pub mod Causes
+pub mod Alone
+pub mod Full

@@ -9,17 +9,18 @@ use Rattle.machine.specs.declared.view.View.{View}
 use Rattle.put_side.specs.Cursors.{Front, PutCursors, place}
 use Rattle.put_side.specs.Counts.{one_at}
 use Rattle.put_side.specs.Stages.{PutStage}
-use Rattle.put_side.specs.Stages.{HeadP, SeeA, AddA, OpenA, RaiseP}
+use Rattle.put_side.specs.declared.put_phase.PutPhase.TheVariants.{HeadP, SeeA, AddA, OpenA, RaiseP}
+use Rattle.put_side.specs.Stages.{At}
 
 -- 1 for a put that is about to open the allocated cursor of a block, else 0
 abbrev pub opens_allocated : ℕ → PutStage → ℕ
-opens_allocated block (OpenA full) = one_at (full.block + 1) block
+opens_allocated block (At (OpenA full)) = one_at (full.block + 1) block
 opens_allocated block stage = 0
 
 -- 1 for a put that is on its way to raise the producer head to a block
 abbrev pub raises_producer : ℕ → PutStage → ℕ
-raises_producer block (OpenA full) = one_at (full.block + 1) block
-raises_producer block (RaiseP full) = one_at (full.block + 1) block
+raises_producer block (At (OpenA full)) = one_at (full.block + 1) block
+raises_producer block (At (RaiseP full)) = one_at (full.block + 1) block
 raises_producer block stage = 0
 
 -- 1 in the second turn, of a put that found the block before this one filled
@@ -28,11 +29,11 @@ second_in block turn first = if turn == 1 then 0 else one_at (first.block + 1) b
 
 -- 1 for a put that is on its way into a block
 abbrev pub enters : ℕ → PutStage → ℕ
-enters block (OpenA full) = one_at (full.block + 1) block
-enters block (RaiseP full) = one_at (full.block + 1) block
-enters block (HeadP turn first) = second_in block turn first
-enters block (SeeA turn first head) = second_in block turn first
-enters block (AddA turn first head) = second_in block turn first
+enters block (At (OpenA full)) = one_at (full.block + 1) block
+enters block (At (RaiseP full)) = one_at (full.block + 1) block
+enters block (At (HeadP turn first)) = second_in block turn first
+enters block (At (SeeA turn first head)) = second_in block turn first
+enters block (At (AddA turn first head)) = second_in block turn first
 enters block stage = 0
 
 module _ {P : Type 0} (stage : View P → PutStage) where

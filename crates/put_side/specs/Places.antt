@@ -7,8 +7,10 @@ use Rattle.cursor_word.specs.declared.cursor.Cursor.{Cursor}
 use Rattle.rail.specs.Items.{IsRising}
 use Rattle.machine.specs.declared.view.View.{View}
 use Rattle.put_side.specs.Cursors.{Front, PutCursors, PutWords}
-use Rattle.put_side.specs.Stages.{PutStage, next_block}
-use Rattle.put_side.specs.Stages.{Away, HeadP, SeeA, AddA, Write, Commit, Fills, OpenM, OpenA, RaiseP}
+use Rattle.put_side.specs.PutSteps.{next_block}
+use Rattle.put_side.specs.Stages.{PutStage}
+use Rattle.put_side.specs.declared.put_phase.PutPhase.TheVariants.{HeadP, SeeA, AddA, Write, Commit, OpenM, OpenA, RaiseP}
+use Rattle.put_side.specs.Stages.{Away, At, Fills}
 use Rattle.put_side.specs.Counts.{PutCounts, claimed}
 
 -- a filled cursor that was found
@@ -44,18 +46,18 @@ pub record IsHead (shape : Grid) (cursors : PutCursors) (head : ℕ) : Type 0 wh
 -- what a seat in a put remembers, by its stage
 abbrev pub PutKnows : Grid → ℕ → PutCursors → PutStage → Type 0
 PutKnows shape last cursors Away = Unit {0}
-PutKnows shape last cursors (HeadP turn first) = IsTurn shape turn first cursors.producer
-PutKnows shape last cursors (SeeA turn first head) =
+PutKnows shape last cursors (At (HeadP turn first)) = IsTurn shape turn first cursors.producer
+PutKnows shape last cursors (At (SeeA turn first head)) =
     IsTurn shape turn first head × IsHead shape cursors head
-PutKnows shape last cursors (AddA turn first head) =
+PutKnows shape last cursors (At (AddA turn first head)) =
     IsTurn shape turn first head × IsHead shape cursors head
-PutKnows shape last cursors (Write at next) = IsCurrent shape last at × (next < shape.width)
-PutKnows shape last cursors (Commit at) = IsCurrent shape last at
+PutKnows shape last cursors (At (Write at next)) = IsCurrent shape last at × (next < shape.width)
+PutKnows shape last cursors (At (Commit at)) = IsCurrent shape last at
 PutKnows shape last cursors (Fills full) = IsFilled shape cursors full
-PutKnows shape last cursors (OpenM full) = IsFilled shape cursors full
-PutKnows shape last cursors (OpenA full) =
+PutKnows shape last cursors (At (OpenM full)) = IsFilled shape cursors full
+PutKnows shape last cursors (At (OpenA full)) =
     IsFilled shape cursors full × (next_block full ≤ cursors.committed (full.block + 1))
-PutKnows shape last cursors (RaiseP full) =
+PutKnows shape last cursors (At (RaiseP full)) =
     IsFilled shape cursors full × (next_block full ≤ cursors.allocated (full.block + 1))
 
 module _ {P : Type 0} (stage : View P → PutStage) (shape : Grid) where

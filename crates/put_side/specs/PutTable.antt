@@ -1,7 +1,7 @@
 -- A machine whose puts take the shared steps.
 use Rattle.std.specs.Prelude.{◌≡◌, ℕ, ◌+◌, ◌%◌, ◌≤◌, List, Option, Some, None}
 use Rattle.cursor_word.specs.Shape.{Grid}
-use Rattle.cursor_word.specs.Cursor.{cursor, offset_span, place_at}
+use Rattle.cursor_word.specs.Cursor.{offset_span, place_at}
 use Rattle.cursor_word.specs.declared.cursor.Cursor.{Cursor}
 use Rattle.rail.specs.declared.entry.Placed.{Placed}
 use Rattle.rail.specs.declared.answer.Answer.TheVariants as answer
@@ -12,17 +12,18 @@ use Rattle.machine.specs.declared.view.View.{View}
 use Rattle.machine.specs.Table.{Table}
 use Rattle.machine.specs.Steps.{made_after}
 use Rattle.put_side.specs.Cursors.{PutCursors}
+use Rattle.put_side.specs.declared.put_phase.PutPhase.TheVariants.{Commit}
+use Rattle.put_side.specs.PutSteps.{first_put}
 use Rattle.put_side.specs.Stages.{PutStage, put_after, put_want}
-use Rattle.put_side.specs.Stages.{Away, HeadP, Commit, Fills}
+use Rattle.put_side.specs.Stages.{Away, At}
 
 -- the steps that all queues share
 abbrev pub IsShared : PutStage → Type 0
-IsShared Away = ⊥
-IsShared (Fills full) = ⊥
-IsShared stage = Unit {0}
+IsShared (At phase) = Unit {0}
+IsShared stage = ⊥
 
 abbrev pub IsNoCommit : PutStage → Type 0
-IsNoCommit (Commit at) = ⊥
+IsNoCommit (At (Commit at)) = ⊥
 IsNoCommit stage = Unit {0}
 
 -- The block after the last one may be opened: the block that it takes the place of, where that
@@ -47,14 +48,15 @@ module _ {P : Type 0} (stage : P → PutStage) where
 
   -- puts take the shared steps, and a put that commits is the only call that makes an entry
   pub record IsPutTable (table : Table P) : Type 0 where
-    pub first_put : stage table.first_put ≡ HeadP 1 (cursor 0 0)
+    pub first_put : stage table.first_put ≡ At first_put
     pub first_take : (shape : Grid) (taken : List Placed)
         → stage (table.first_take shape taken) ≡ Away
     pub want : (shape : Grid) (phase : P) (entry : List ℕ) → IsShared (stage phase)
         → table.want shape phase entry ≡ put_want shape (stage phase) entry
     pub after : (shape : Grid) (phase : P) (found : ℕ) → IsShared (stage phase)
         → stage_after (table.after shape phase found) ≡ put_after shape (stage phase) found
-    pub commits : (shape : Grid) (phase : P) (at : Cursor) (found : ℕ) → stage phase ≡ Commit at
+    pub commits : (shape : Grid) (phase : P) (at : Cursor) (found : ℕ)
+        → stage phase ≡ At (Commit at)
         → table.after shape phase found ≡ Done (answer.Put (put.Ok (place_at shape at)))
     pub makes_none : (shape : Grid) (phase : P) (found : ℕ) (made : List Placed) (entry : List ℕ)
         → IsNoCommit (stage phase) → made_after made entry (table.after shape phase found) ≡ made
