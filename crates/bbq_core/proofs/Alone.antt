@@ -1,34 +1,33 @@
 -- A put that is done alone: each of its steps, and what it answers.
-use Rattle.std.proofs.Common.{◌≡◌, ℕ, ◌+◌, ◌-◌, ◌*◌, ◌/◌, ◌%◌, ◌^◌, ◌<◌, ◌≤◌, max, min, List, Bool, true, length, refl, sym, ap, ◌∙◌, subst, inr, ⊎_elim, arith}
+use Rattle.std.proofs.Common.{◌≡◌, ℕ, ◌+◌, ◌-◌, ◌*◌, ◌%◌, ◌<◌, List, Bool, true, refl, sym, ap, ◌∙◌, subst, arith}
 use Rattle.std.specs.Prelude.{Some, slice_set, slice_index, if◌then◌else◌, ◌==◌, ◌&&◌}
-use Rattle.std.proofs.lemmas.List.{get_or-set_same, get_or-set_other, length-append}
-use Rattle.std.proofs.lemmas.Bool.{cases_lt}
+use Rattle.std.proofs.lemmas.List.{length-append}
 use Rattle.std.proofs.lemmas.Bool.Decides.{nat_tests}
-use Rattle.std.proofs.lemmas.Nat.{div-add-mod', div-mul-add, mod-mul-add, mod_below, same_from_place}
-use Rattle.std.proofs.Math.Nat.{mul-le-mul_right}
-use Rattle.cursor_word.specs.Shape.{Grid, IsWithinLimits}
-use Rattle.cursor_word.specs.Cursor.{offset_span, packed, place_at, unpacked}
+use Rattle.cursor_word.specs.Shape.{Grid}
+use Rattle.cursor_word.specs.Cursor.{packed, unpacked}
 use Rattle.cursor_word.specs.declared.cursor.Cursor.{Cursor}
 use Rattle.machine.specs.declared.op.After.TheVariants.{Next}
-use Rattle.machine.specs.Steps.{words_after}
-use Rattle.rail.specs.Sequential.{IsFull}
-use Rattle.put_side.specs.Cursors.{Front, allocated_word, committed_word, consumed_word, place, reserved_word}
-use Rattle.put_side.specs.Stages as stages
-use Rattle.put_side.specs.PutTable.{stage_in}
+use Rattle.machine.specs.Ops.{noted}
+use Rattle.machine.specs.Steps.{finds, words_after}
+use Rattle.put_side.specs.declared.put_phase.PutPhase.{PutPhase}
+use Rattle.put_side.specs.declared.put_phase.PutPhase.TheVariants.{OpenM}
+use Rattle.put_side.specs.Cursors.{Front, consumed_word, place}
+use Rattle.put_side.specs.PutSteps.{older_full}
+use Rattle.put_side.specs.Stages.{At, Fills}
+use Rattle.put_side.proofs.AlonePuts.{accepted_of, head_of, put_goes_on}
+use Rattle.put_side.proofs.Facts.{repacked}
+use Rattle.put_side.proofs.Full.{all_allocated, is_full, not_full}
+use Rattle.put_side.proofs.Loads.{knows_at}
 use Rattle.put_side.proofs.Sums.{by_test_le}
-use Rattle.put_side.proofs.Facts.{allocated_below, committed_below, physical, repacked}
-use Rattle.put_side.proofs.Loads as put_loads
 use Rattle.bbq_core.specs.declared.phase.Phase.{Phase}
-use Rattle.bbq_core.specs.declared.phase.Phase.TheVariants.{HeadP, SeeA, AddA, Write, Commit, SeeX, SeeR, OpenM, OpenA, RaiseP}
+use Rattle.bbq_core.specs.declared.phase.Phase.TheVariants.{Put, SeeX, SeeR}
 use Rattle.bbq_core.specs.Types.{After, View}
-use Rattle.bbq_core.specs.PutSteps.{filled, older_consumed}
+use Rattle.bbq_core.specs.PutSteps.{want}
 use Rattle.bbq_core.specs.Table.{table}
 use Rattle.bbq_core.specs.Stage.{stage, stage_of}
-use Rattle.bbq_core.specs.Sound.{IsSoundAt, Knows, scene}
-use Rattle.bbq_core.proofs.AtAnswers.{full_at}
+use Rattle.bbq_core.specs.Sound.{Knows, scene}
 use Rattle.bbq_core.proofs.Lone.{consumed_is, not_consumed, reused_reserved}
-use Rattle.bbq_core.proofs.LoneSteps.{Follows, Goes, IsHere, accepted_is, back_is, come_to_rest, front_is, given_is, go_further, go_on, head_is, load_on, next_of, taken_once}
-use Rattle.bbq_core.proofs.Loads.{pick_equal, pick_less}
+use Rattle.bbq_core.proofs.LoneSteps.{Follows, Goes, IsHere, back_is, come_to_rest, given_is, go_on, load_on, next_of, put_here, taken_once}
 
 -- a test of two cursors that are one
 both_same : (p q : ℕ) → ((p == p) && (q == q)) ≡ true
@@ -37,38 +36,6 @@ both_same p q = grind (arith, nat_tests)
 pick_alike : (P : After → Type 0) (x f : Cursor) (y z : After) → x ≡ f → P y → P (if (x.block == f.block) && (x.offset == f.offset) then y else z)
 pick_alike P x f y z e hit = subst (λ (c : Cursor). P (if (x.block == c.block) && (x.offset == c.offset) then y else z)) e (subst (λ (b : Bool). P (if b then y else z)) (sym (both_same x.block x.offset)) hit)
 
--- m blocks are filled, and the one that the next would reuse is not wholly taken
-abbrev IsFullAt : Grid → ℕ → ℕ → ℕ → Type 0
-IsFullAt g n t m = (n ≡ m * g.size) × (1 ≤ m) × (t < (m + 1 - g.blocks) * g.size)
-
-is_full : (g : Grid) (n t m : ℕ) → IsWithinLimits g → IsFullAt g n t m → (n / g.size ≡ m) × IsFull g n t
-is_full g n t m limits f =
-    let size = limits.size_from in
-    let e : n ≡ m * g.size + 0 = f.0 ∙ omega arith in
-    let q : n / g.size ≡ m = ap (λ (k : ℕ). k / g.size) e ∙ div-mul-add m g.size 0 size in
-    let r : n % g.size ≡ 0 = ap (λ (k : ℕ). k % g.size) e ∙ mod-mul-add m g.size 0 size in
-    let w : 1 * g.size ≤ m * g.size = mul-le-mul_right g.size (f.1) in
-    (q, record { some = omega (arith, f.0); filled = r; untaken = subst (λ (k : ℕ). t < (k + 1 - g.blocks) * g.size) (sym q) f.2 })
-
-full_blocks : (g : Grid) (n t : ℕ) → IsFull g n t → IsFullAt g n t (n / g.size)
-full_blocks g n t f =
-    let r = f.filled in
-    let e : n / g.size * g.size + n % g.size ≡ n = div-add-mod' n g.size in
-    let s = f.some in
-    (omega arith, ⊎_elim (λ z. absurd (let y : n / g.size ≡ 0 = omega arith in let x = ap (λ (k : ℕ). k * g.size) y in omega arith)) (λ z. z) (cases_lt (n / g.size) 1), f.untaken)
-
--- a place that a put alone draws is not one at which the queue is full
-not_full : (g : Grid) (n t : ℕ) (front back : Front) (ws : List ℕ) (vs : List View) (at : Cursor) (m : ℕ) → IsWithinLimits g → IsSoundAt g front back ws vs → back.next ≡ t → g.blocks ≤ at.block → at.block ≤ front.last → at.offset < g.size → place_at g at ≡ n → IsFullAt g n t m → ⊥
-not_full g n t front back ws vs at m limits s number from to within here f =
-    let e : (at.block - g.blocks) * g.size + at.offset ≡ m * g.size + 0 = here ∙ f.0 ∙ omega arith in
-    let same = same_from_place (at.block - g.blocks) at.offset m 0 g.size within (omega (arith, limits.size_from)) e in
-    let b = same.0 in
-    let less = f.2 in
-    ⊎_elim
-    (λ l. let z : m + 1 - g.blocks ≡ 0 = omega arith in let y = ap (λ (c : ℕ). c * g.size) z in omega arith)
-    (λ l. let r = reused_reserved g front back ws vs m limits s l (omega arith) in omega arith)
-    (cases_lt m g.blocks)
-
 module _ (g : Grid) (n t : ℕ) (front back : Front) (ws : List ℕ) (vs : List View) (id : ℕ) (v : View) where
   abbrev Here : Phase → Type 0
   Here p = IsHere g n t front back ws vs id v p
@@ -76,67 +43,29 @@ module _ (g : Grid) (n t : ℕ) (front back : Front) (ws : List ℕ) (vs : List 
   abbrev Leads : Phase → Type 0
   Leads p = Goes g n t ws vs id v p
 
-  pub lone_HeadP : (turn : ℕ) (first : Cursor) → Here (HeadP turn first) → Leads (HeadP turn first)
-  lone_HeadP turn first h =
-      load_on h _ _ record { puts = tt; takes = tt } (next_of h) refl refl (head_is h refl, h.knows)
-
-  pub lone_SeeA : (turn : ℕ) (first : Cursor) (head : ℕ) → Here (SeeA turn first head) → Leads (SeeA turn first head)
-  lone_SeeA turn first head h =
-      let i : ℕ = 2 + 4 * (head % g.blocks) in
-      let w : ℕ = slice_index ws i in
-      let k = h.knows in
-      let is : w ≡ allocated_word g ws front.last = ap (allocated_word g ws) k.0 in
-      let block = front_is h refl in
-      let F : After → Type 0 = Follows h (slice_set ws i w) w v.read in
-      pick_less F (w % offset_span) g.size (Next (AddA turn first head)) (filled turn first (unpacked w))
-      (λ l q. load_on h _ _ record { puts = tt; takes = tt } q refl refl (k.0, omega arith))
-      (λ l. pick_equal F turn 1 (Next (SeeX (unpacked w))) _
-      (λ one q. load_on h _ _ record { puts = tt; takes = tt } q refl refl (let y : w / offset_span ≡ front.last = omega arith in y))
-      (λ two q. absurd (⊎_elim (λ y. two y) (λ y. omega (arith, h.limits.size_from)) k.1)))
+  -- a shared step
+  pub lone_Put : (q : PutPhase) → Here (Put q) → Leads (Put q)
+  lone_Put q h =
+      let found : ℕ = finds table g ws v (Put q) in
+      let number : back.next ≡ t = given_is h ∙ omega arith in
+      put_goes_on stage Put SeeX g n front ws vs id v q (Follows h (words_after table g ws v (Put q)) (noted (want g (Put q) v.entry) found) v.read) (put_here h (At q) refl h.knows)
+      record {
+        next = λ p knows k. go_on h _ tt k refl refl knows;
+        fills = λ full knows k. go_on h _ tt k refl refl knows;
+        ok = λ at current is k. (
+          (is, not_full g n t front.last at h.limits (λ b from le. let r = reused_reserved g front back ws vs b h.limits h.sound from le in omega arith) current is),
+          come_to_rest h 1 0 _ k refl (length-append v.made _) (omega arith),
+        );
+      }
       (next_of h)
-
-  pub lone_AddA : (turn : ℕ) (first : Cursor) (head : ℕ) → Here (AddA turn first head) → Leads (AddA turn first head)
-  lone_AddA turn first head h =
-      let i : ℕ = 2 + 4 * (head % g.blocks) in
-      let w : ℕ = slice_index ws i in
-      let k = h.knows in
-      let is : w ≡ allocated_word g ws front.last = ap (allocated_word g ws) k.0 in
-      let block = front_is h refl in
-      let number = accepted_is h in
-      let top : front.next ≡ place g front.last (min (allocated_word g ws front.last % offset_span) g.size) = ⊎_elim (λ q. q.at) (λ q. absurd (omega (arith, q.older, h.limits.blocks_from))) h.sound.puts.places.words.newest in
-      let off : min (allocated_word g ws front.last % offset_span) g.size ≡ w % offset_span = omega (arith, k.1) in
-      let b : front.last ≡ w / offset_span = omega arith in
-      let here : place_at g (unpacked w) ≡ n = sym (ap (λ (c : ℕ). place g c (w % offset_span)) b) ∙ sym (ap (place g front.last) off) ∙ sym top ∙ omega arith in
-      let ws' : List ℕ = slice_set ws i ((w + 1) % 2 ^ 64) in
-      pick_less (Follows h ws' w v.read) (w % offset_span) g.size (Next (Write (unpacked w) 0)) (filled turn first (unpacked w))
-      (λ l q. go_on h _ record { puts = tt; takes = tt } q refl refl here)
-      (λ l. absurd (omega (arith, k.1)))
-      (next_of h)
-
-  pub lone_Write : (at : Cursor) (next : ℕ) → Here (Write at next) → Leads (Write at next)
-  lone_Write at next h =
-      let ws' : List ℕ = words_after table g ws v (Write at next) in
-      pick_less (Follows h ws' (slice_index v.entry next) v.read) (next + 1) g.width (Next (Write at (next + 1))) (Next (Commit at))
-      (λ l q. go_on h _ record { puts = tt; takes = tt } q refl refl h.knows)
-      (λ l q. go_on h _ record { puts = tt; takes = tt } q refl refl h.knows)
-      (next_of h)
-
-  pub lone_Commit : (at : Cursor) → Here (Commit at) → Leads (Commit at)
-  lone_Commit at h =
-      let f = put_loads.knows_at stage_of g front ws vs id v v h.sound.puts.places h.at (stages.Commit at) (ap (stage_in stage) h.phase) in
-      let number : back.next ≡ t = given_is h ∙ omega arith in (
-        (h.knows, λ full. not_full g n t front back ws vs at (n / g.size) h.limits h.sound number f.from f.to f.within h.knows (full_blocks g n t full)),
-        come_to_rest h 1 0 _ (next_of h) refl (length-append v.made _) (omega arith),
-      )
 
   pub lone_SeeX : (full : Cursor) → Here (SeeX full) → Leads (SeeX full)
   lone_SeeX full h =
       let i : ℕ = 5 + 4 * ((full.block + 1) % g.blocks) in
       let w : ℕ = slice_index ws i in
-      let is : unpacked w ≡ unpacked (consumed_word g ws (front.last + 1)) = ap (λ (b : ℕ). unpacked (consumed_word g ws (b + 1))) h.knows in
-      by_test_le (older_consumed g full.block) w (λ b. Follows h (slice_set ws i w) w v.read (if b then Next (OpenM full) else Next (SeeR full (unpacked w))))
-      (λ l q. load_on h _ _ record { puts = tt; takes = tt } q refl refl h.knows)
-      (λ l q. load_on h _ _ record { puts = tt; takes = tt } q refl refl (h.knows, is))
+      by_test_le (older_full g full.block) w (λ b. Follows h (slice_set ws i w) w v.read (if b then Next (Put (OpenM full)) else Next (SeeR full (unpacked w))))
+      (λ l q. load_on h _ _ tt q refl refl h.knows)
+      (λ l q. load_on h _ _ tt q refl refl (h.knows, refl))
       (next_of h)
 
   -- the answer that the queue is full
@@ -144,68 +73,25 @@ module _ (g : Grid) (n t : ℕ) (front back : Front) (ws : List ℕ) (vs : List 
   lone_SeeR full x h =
       let i : ℕ = 4 + 4 * ((full.block + 1) % g.blocks) in
       let w : ℕ = slice_index ws i in
-      let f = put_loads.knows_at stage_of g front ws vs id v v h.sound.puts.places h.at (stages.Fills full) (ap (stage_in stage) h.phase) in
+      let side = put_here h (Fills full) refl h.knows.0 in
+      let places = h.sound.puts.places in
+      let f = knows_at stage_of g front ws vs id v v places h.at (Fills full) side.stands in
       let seen : Knows g (scene g back ws vs) v.made v.read (Some (SeeR full x)) = subst (Knows g (scene g back ws vs) v.made v.read) h.phase (h.sound.each id v h.at).knows in
-      let k = h.knows in
+      let last : full.block ≡ front.last = h.knows.0 ∙ head_of side refl in
       let taken = taken_once h refl in
-      let top = back_is h refl in
-      let same = consumed_is g front back ws vs h.limits h.sound h.manned top taken (front.last + 1) in
-      let there : w ≡ reserved_word g ws (front.last + 1) = ap (λ (b : ℕ). reserved_word g ws (b + 1)) k.0 in
-      let is : x ≡ unpacked w = k.1 ∙ ap unpacked (same ∙ sym there) in
-      let word : packed x ≡ consumed_word g ws (front.last + 1) = ap packed k.1 ∙ repacked (consumed_word g ws (front.last + 1)) in
-      let old : older_consumed g full.block ≡ older_consumed g front.last = ap (older_consumed g) k.0 in
-      let less : consumed_word g ws (front.last + 1) < older_consumed g front.last = omega (arith, seen.0) in
-      let less' : consumed_word g ws (full.block + 1) < older_consumed g full.block = let z = ap (λ (b : ℕ). consumed_word g ws (b + 1)) k.0 in omega arith in
-      let fill = full_at g h.limits front back ws vs h.sound full f less' in
-      let end : front.next ≡ place g (front.last + 1) 0 = fill.1 ∙ ap (λ (b : ℕ). place g (b + 1) 0) k.0 in
+      let same = consumed_is g front back ws vs h.limits h.sound h.manned (back_is h refl) taken (full.block + 1) in
+      let is : x ≡ unpacked w = h.knows.1 ∙ ap unpacked same in
+      let word : packed x ≡ consumed_word g ws (full.block + 1) = ap packed h.knows.1 ∙ repacked (consumed_word g ws (full.block + 1)) in
+      let less : consumed_word g ws (front.last + 1) < older_full g front.last = subst (λ (b : ℕ). consumed_word g ws (b + 1) < older_full g b) last (omega (arith, seen.0)) in
+      let end : front.next ≡ place g (front.last + 1) 0 = all_allocated stage_of g h.limits front ws vs places full f (sym last) ∙ ap (λ (b : ℕ). place g (b + 1) 0) last in
       let few = not_consumed g front back ws vs h.limits h.sound h.manned taken less in
-      let number = accepted_is h in
+      let number = accepted_of side refl in
       let number' = given_is h in
       let m : ℕ = front.last + 1 - g.blocks in
       let few' : t < (m + 1 - g.blocks) * g.size = omega arith in
       let all : n ≡ m * g.size = omega arith in
-      let from = h.sound.puts.places.words.from in
+      let from = places.words.from in
       let is_f = is_full g n t m h.limits (all, omega arith, few') in
       pick_alike (Follows h (slice_set ws i w) w v.read) x (unpacked w) _ _ is
-      (λ q. ((k.0 ∙ omega (arith, is_f.0), is_f.1), come_to_rest h 0 0 _ q refl (omega arith) (omega arith)))
+      (λ q. ((last ∙ omega (arith, is_f.0), is_f.1), come_to_rest h 0 0 _ q refl (omega arith) (omega arith)))
       (next_of h)
-
-  pub lone_OpenM : (full : Cursor) → Here (OpenM full) → Leads (OpenM full)
-  lone_OpenM full h =
-      let i : ℕ = 3 + 4 * ((full.block + 1) % g.blocks) in
-      let x : ℕ = max (slice_index ws i) ((full.block + 1) * offset_span) in
-      let ws' : List ℕ = slice_set ws i x in
-      let k = h.knows in
-      let q = next_of h in
-      let words = h.sound.puts.places.words in
-      let words' = q.sound.puts.places.words in
-      let m = mod_below (full.block + 1) g.blocks (omega (arith, h.limits.blocks_from)) in
-      let long : i < length ws = omega (arith, h.sound.puts.all) in
-      let there : committed_word g ws' (full.block + 1) ≡ x = get_or-set_same ws i x 0 long in
-      let to : q.front'.last ≡ front.last + 1 = ⊎_elim (λ e. absurd (let b = committed_below words' h.limits.blocks_from (physical g ws' 3) (full.block + 1) in omega arith)) (λ o. o.next) q.opened in
-      let low = allocated_below words h.limits.blocks_from (physical g ws 2) (front.last + 1) in
-      let same : allocated_word g ws' (front.last + 1) ≡ allocated_word g ws (front.last + 1) = get_or-set_other ws i _ x 0 (λ q. omega arith) in
-      let here = ap (allocated_word g ws') to in
-      go_further h _ q refl refl (omega arith, omega arith)
-
-  pub lone_OpenA : (full : Cursor) → Here (OpenA full) → Leads (OpenA full)
-  lone_OpenA full h =
-      let i : ℕ = 2 + 4 * ((full.block + 1) % g.blocks) in
-      let old : ℕ = slice_index ws i in
-      let x : ℕ = max old ((full.block + 1) * offset_span) in
-      let ws' : List ℕ = slice_set ws i x in
-      let k = h.knows in
-      let m = mod_below (full.block + 1) g.blocks (omega (arith, h.limits.blocks_from)) in
-      let long : i < length ws = omega (arith, h.sound.puts.all) in
-      let was : old ≡ allocated_word g ws front.last = ap (allocated_word g ws) k.0 in
-      let there : allocated_word g ws' front.last ≡ x = sym (ap (allocated_word g ws') k.0) ∙ get_or-set_same ws i x 0 long in
-      let less = k.1 in
-      go_on h _ record { puts = tt; takes = tt } (next_of h) refl refl (k.0, omega (arith, k.0))
-
-  pub lone_RaiseP : (full : Cursor) → Here (RaiseP full) → Leads (RaiseP full)
-  lone_RaiseP full h =
-      let x : ℕ = max (slice_index ws 0) (full.block + 1) in
-      let ws' : List ℕ = slice_set ws 0 x in
-      let k = h.knows in
-      let same : allocated_word g ws' front.last ≡ allocated_word g ws front.last = get_or-set_other ws 0 _ x 0 (λ q. omega arith) in
-      go_on h _ record { puts = tt; takes = tt } (next_of h) refl refl (inr (same ∙ k.1))

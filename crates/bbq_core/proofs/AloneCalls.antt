@@ -11,7 +11,7 @@ use Rattle.machine.proofs.Lists.{get_set_other, sum_set}
 use Rattle.put_side.specs.Cursors.{Front, put_cursors}
 use Rattle.put_side.proofs.Few.{last_small}
 use Rattle.bbq_core.specs.declared.phase.Phase.{Phase}
-use Rattle.bbq_core.specs.declared.phase.Phase.TheVariants.{HeadP, SeeA, AddA, Write, Commit, SeeX, SeeR, OpenM, OpenA, RaiseP, Take}
+use Rattle.bbq_core.specs.declared.phase.Phase.TheVariants.{Put, SeeX, SeeR, Take}
 use Rattle.bbq_core.specs.declared.take_phase.TakePhase.TheVariants.{HeadC, SeeRes, SeeCom, SeeAll, Reserve, Read, Consume, NextCom, OpenX, OpenR, RaiseC}
 use Rattle.bbq_core.specs.Types.{View}
 use Rattle.bbq_core.specs.PutSteps.{first_put}
@@ -21,23 +21,16 @@ use Rattle.bbq_core.specs.Stage.{stage_of}
 use Rattle.bbq_core.specs.Counts.{taken_count}
 use Rattle.bbq_core.specs.Sound.{IsSoundAt}
 use Rattle.bbq_core.specs.Alone.{IsAlone, IsStill, LoneKnows}
-use Rattle.bbq_core.proofs.Alone.{lone_AddA, lone_Commit, lone_HeadP, lone_OpenA, lone_OpenM, lone_RaiseP, lone_SeeA, lone_SeeR, lone_SeeX, lone_Write}
+use Rattle.bbq_core.proofs.Alone.{lone_Put, lone_SeeR, lone_SeeX}
 use Rattle.bbq_core.proofs.AloneTakes.{lone_Consume, lone_HeadC, lone_NextCom, lone_OpenR, lone_OpenX, lone_RaiseC, lone_Read, lone_Reserve, lone_SeeAll, lone_SeeCom, lone_SeeRes}
 use Rattle.bbq_core.proofs.LoneSteps.{Goes, IsHere}
 use Rattle.bbq_core.proofs.Starts.{begins_manned, begins_put_at, begins_take_at}
 
 -- each step of a seat alone
 goes : (g : Grid) (n t : ℕ) (front back : Front) (ws : List ℕ) (vs : List View) (id : ℕ) (v : View) (p : Phase) → IsHere g n t front back ws vs id v p → Goes g n t ws vs id v p
-goes g n t front back ws vs id v (HeadP turn first) h = lone_HeadP g n t front back ws vs id v turn first h
-goes g n t front back ws vs id v (SeeA turn first head) h = lone_SeeA g n t front back ws vs id v turn first head h
-goes g n t front back ws vs id v (AddA turn first head) h = lone_AddA g n t front back ws vs id v turn first head h
-goes g n t front back ws vs id v (Write at next) h = lone_Write g n t front back ws vs id v at next h
-goes g n t front back ws vs id v (Commit at) h = lone_Commit g n t front back ws vs id v at h
+goes g n t front back ws vs id v (Put q) h = lone_Put g n t front back ws vs id v q h
 goes g n t front back ws vs id v (SeeX full) h = lone_SeeX g n t front back ws vs id v full h
 goes g n t front back ws vs id v (SeeR full x) h = lone_SeeR g n t front back ws vs id v full x h
-goes g n t front back ws vs id v (OpenM full) h = lone_OpenM g n t front back ws vs id v full h
-goes g n t front back ws vs id v (OpenA full) h = lone_OpenA g n t front back ws vs id v full h
-goes g n t front back ws vs id v (RaiseP full) h = lone_RaiseP g n t front back ws vs id v full h
 goes g n t front back ws vs id v (Take (HeadC turn first)) h = lone_HeadC g n t front back ws vs id v turn first h
 goes g n t front back ws vs id v (Take (SeeRes turn first head)) h = lone_SeeRes g n t front back ws vs id v turn first head h
 goes g n t front back ws vs id v (Take (SeeCom r)) h = lone_SeeCom g n t front back ws vs id v r h
@@ -61,7 +54,7 @@ begun_total : (f : View → ℕ) (vs : List View) (id n : ℕ) (v v' : View) →
 begun_total f vs id n v v' at e total = let z = sum_set f vs id v v' at in omega arith
 
 module _ (g : Grid) (limits : IsWithinLimits g) (n t : ℕ) (ws : List ℕ) (vs : List View) (id : ℕ) (v : View) (s : IsStill g n t ws vs) (at : slice_get vs id ≡ Some v) where
-  begins : (v' : View) (p : Phase) → made_count v' ≡ made_count v → taken_count v' ≡ taken_count v → IsSoundAt g s.front s.back ws (slice_set vs id v') → LoneKnows g s.front.last s.back.last n t ws p → IsAlone g n t ws (slice_set vs id v') id p
+  begins : (v' : View) (p : Phase) → made_count v' ≡ made_count v → taken_count v' ≡ taken_count v → IsSoundAt g s.front s.back ws (slice_set vs id v') → LoneKnows g s.back.last n t ws p → IsAlone g n t ws (slice_set vs id v') id p
   begins v' p made taken sound knows = record {
     front = s.front;
     back = s.back;

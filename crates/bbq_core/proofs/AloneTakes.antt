@@ -25,9 +25,14 @@ use Rattle.bbq_core.specs.TakeSteps.{passed}
 use Rattle.bbq_core.specs.Table.{table}
 use Rattle.bbq_core.specs.Sound.{IsSoundAt}
 use Rattle.bbq_core.proofs.AtAnswers.{empty_at, empty_past}
-use Rattle.bbq_core.proofs.Lone.{committed_is, consumed_is}
-use Rattle.bbq_core.proofs.LoneSteps.{Follows, Goes, IsHere, accepted_is, back_is, come_to_rest, front_is, given_is, go_further, go_on, load_on, made_once, next_of, tail_is, taken_once}
-use Rattle.bbq_core.proofs.Loads.{by_equal, pick_equal, pick_less, pick_same}
+use Rattle.bbq_core.proofs.Lone.{consumed_is}
+use Rattle.put_side.specs.Stages.{Away}
+use Rattle.put_side.proofs.AlonePuts.{IsPutHere, accepted_of, made_of, open_of}
+use Rattle.put_side.proofs.Lone.{committed_is}
+use Rattle.bbq_core.specs.Stage.{stage}
+use Rattle.bbq_core.specs.declared.take_phase.TakePhase.{TakePhase}
+use Rattle.bbq_core.proofs.LoneSteps.{Follows, Goes, IsHere, back_is, come_to_rest, given_is, go_further, go_on, load_on, next_of, put_here, tail_is, taken_once}
+use Rattle.put_side.proofs.Choices.{by_equal, pick_equal, pick_less, pick_same}
 use Rattle.bbq_core.proofs.TakeFacts.{consumed_below, reserved_below, reserved_within}
 use Rattle.bbq_core.proofs.TakeLoads.{committed_found, knows_at}
 
@@ -49,9 +54,13 @@ module _ (g : Grid) (n t : ℕ) (front back : Front) (ws : List ℕ) (vs : List 
   abbrev Leads : Phase → Type 0
   Leads p = Goes g n t ws vs id v p
 
+  -- a seat in a take stands in no put
+  side : {q : TakePhase} → Here (Take q) → IsPutHere stage g n front ws vs id v Away
+  side h = put_here h Away refl tt
+
   pub lone_HeadC : (turn : ℕ) (first : Cursor) → Here (Take (HeadC turn first)) → Leads (Take (HeadC turn first))
   lone_HeadC turn first h =
-      load_on h _ _ record { puts = tt; takes = tt } (next_of h) refl refl (tail_is h refl, h.knows)
+      load_on h _ _ tt (next_of h) refl refl (tail_is h refl, h.knows)
 
   pub lone_SeeRes : (turn : ℕ) (first : Cursor) (head : ℕ) → Here (Take (SeeRes turn first head)) → Leads (Take (SeeRes turn first head))
   lone_SeeRes turn first head h =
@@ -63,9 +72,9 @@ module _ (g : Grid) (n t : ℕ) (front back : Front) (ws : List ℕ) (vs : List 
       let b : w / offset_span ≡ back.last = omega arith in
       let F : After → Type 0 = Follows h (slice_set ws i w) w v.read in
       pick_less F (w % offset_span) g.size (Next (Take (SeeCom (unpacked w)))) (passed turn first (unpacked w))
-      (λ l q. load_on h _ _ record { puts = tt; takes = tt } q refl refl (b, repacked w ∙ is))
+      (λ l q. load_on h _ _ tt q refl refl (b, repacked w ∙ is))
       (λ l. pick_equal F turn 1 (Next (Take (NextCom (unpacked w)))) _
-      (λ one q. load_on h _ _ record { puts = tt; takes = tt } q refl refl b)
+      (λ one q. load_on h _ _ tt q refl refl b)
       (λ two q. absurd (⊎_elim (λ y. two y) (λ y. omega (arith, h.limits.size_from)) k.1)))
       (next_of h)
 
@@ -77,9 +86,9 @@ module _ (g : Grid) (n t : ℕ) (front back : Front) (ws : List ℕ) (vs : List 
       let s = h.sound in
       let f = knows_at g h.limits front back ws vs h.sound id v h.at (SeeCom r) h.phase in
       let is : w ≡ committed_word g ws back.last = ap (committed_word g ws) k.0 in
-      let number = accepted_is h in
+      let number = accepted_of (side h) refl in
       let number' = given_is h in
-      let made = made_once h refl in
+      let made = made_of (side h) refl in
       let taken = taken_once h refl in
       let top = back_is h refl in
       let near : front.last < back.last + g.blocks = ⊎_elim (λ l. l)
@@ -95,8 +104,8 @@ module _ (g : Grid) (n t : ℕ) (front back : Front) (ws : List ℕ) (vs : List 
       (λ ne. pick_less F r.block (w / offset_span) _ _
       (λ l. absurd (omega (arith, k.0)))
       (λ l. pick_equal F (w % offset_span) g.size _ _
-      (λ e q. load_on h _ _ record { puts = tt; takes = tt } q refl refl (k.0, k.1))
-      (λ e q. load_on h _ _ record { puts = tt; takes = tt } q refl refl (k.0, k.1, repacked w ∙ is))))
+      (λ e q. load_on h _ _ tt q refl refl (k.0, k.1))
+      (λ e q. load_on h _ _ tt q refl refl (k.0, k.1, repacked w ∙ is))))
       (next_of h)
 
   pub lone_SeeAll : (r m : Cursor) → Here (Take (SeeAll r m)) → Leads (Take (SeeAll r m))
@@ -108,20 +117,20 @@ module _ (g : Grid) (n t : ℕ) (front back : Front) (ws : List ℕ) (vs : List 
       let f = knows_at g h.limits front back ws vs h.sound id v h.at (SeeAll r m) h.phase in
       let ahead = f.1 in
       let is : w ≡ allocated_word g ws back.last = ap (allocated_word g ws) k.0 in
-      let made = made_once h refl in
-      let top = front_is h refl in
+      let made = made_of (side h) refl in
+      let top = open_of (side h) refl in
       let found = committed_found g h.limits front back ws vs s r f.0 in
       let there : committed_word g ws r.block ≡ committed_word g ws back.last = ap (committed_word g ws) k.0 in
       let near' = found.current (omega (arith, ahead.same, ahead.within, k.2, h.limits.size_to)) in
       let near : front.last < back.last + g.blocks = omega (arith, k.0) in
-      let count = committed_is g front back ws vs h.limits s top made back.last s.takes.behind near s.takes.from in
+      let count = committed_is stage g front ws vs h.limits s.puts top made back.last s.takes.behind near s.takes.from in
       let offset : committed_word g ws back.last % offset_span ≡ m.offset = omega (arith, ahead.within, k.2, h.limits.size_to) in
       let newest : back.last ≡ front.last = ⊎_elim (λ l. absurd (let y = s.puts.places.words.full back.last l near in omega (arith, y.1, ahead.within))) (λ l. omega (arith, s.takes.behind)) (cases_lt back.last front.last) in
       let block : allocated_word g ws back.last / offset_span ≡ back.last = ap (λ (b : ℕ). allocated_word g ws b / offset_span) newest ∙ top ∙ sym newest in
       let e : w ≡ packed m = omega (arith, ahead.same, ahead.within, k.0) in
       let F : After → Type 0 = Follows h (slice_set ws i w) w v.read in
       pick_same F w m _ _
-      (λ q x. load_on h _ _ record { puts = tt; takes = tt } x refl refl (k.0, k.1))
+      (λ q x. load_on h _ _ tt x refl refl (k.0, k.1))
       (λ ne. absurd (ne (unpacked_is m w (omega (arith, ahead.within, h.limits.size_to)) e)))
       (next_of h)
 
@@ -141,7 +150,7 @@ module _ (g : Grid) (n t : ℕ) (front back : Front) (ws : List ℕ) (vs : List 
       let here : place_at g r ≡ t = ap (λ (b : ℕ). place g b r.offset) k.0 ∙ sym (base ∙ ap (place g back.last) offset) ∙ omega arith in
       let e : w ≡ packed r = omega (arith, k.1) in
       pick_equal (Follows h ws' w v.read) w (packed r) _ _
-      (λ q y. go_on h _ record { puts = tt; takes = tt } y refl refl here)
+      (λ q y. go_on h _ tt y refl refl here)
       (λ ne. absurd (ne e))
       (next_of h)
 
@@ -151,8 +160,8 @@ module _ (g : Grid) (n t : ℕ) (front back : Front) (ws : List ℕ) (vs : List 
       let v' : View = view_after table g ws v (Take (Read at next)) in
       let old : ℕ = slice_index ws (2 + 4 * g.blocks + ((at.block % g.blocks) * g.size + at.offset) * g.width + next) in
       pick_less (Follows h ws' old (v.read ++ old ∷ [])) (next + 1) g.width (Next (Take (Read at (next + 1)))) (Next (Take (Consume at)))
-      (λ l q. go_on h _ record { puts = tt; takes = tt } q refl refl h.knows)
-      (λ l q. go_on h _ record { puts = tt; takes = tt } q refl refl h.knows)
+      (λ l q. go_on h _ tt q refl refl h.knows)
+      (λ l q. go_on h _ tt q refl refl h.knows)
       (next_of h)
 
   pub lone_Consume : (at : Cursor) → Here (Take (Consume at)) → Leads (Take (Consume at))
@@ -160,8 +169,8 @@ module _ (g : Grid) (n t : ℕ) (front back : Front) (ws : List ℕ) (vs : List 
       let s = h.sound in
       let f = knows_at g h.limits front back ws vs h.sound id v h.at (Consume at) h.phase in
       let k = h.knows in
-      let number = accepted_is h in
-      let made = made_once h refl in
+      let number = accepted_of (side h) refl in
+      let made = made_of (side h) refl in
       let there = made_counts vs _ f.1 in
       let one = made (place_at g at) in (
         ok_is n t _ k (λ e. let z = none_from (place_at g at) front.next (omega arith) in omega arith),
@@ -175,14 +184,14 @@ module _ (g : Grid) (n t : ℕ) (front back : Front) (ws : List ℕ) (vs : List 
       let k = h.knows in
       let s = h.sound in
       let f = knows_at g h.limits front back ws vs h.sound id v h.at (NextCom sp) h.phase in
-      let number = accepted_is h in
+      let number = accepted_of (side h) refl in
       let number' = given_is h in
-      let made = made_once h refl in
+      let made = made_of (side h) refl in
       pick_less (Follows h (slice_set ws i w) w v.read) (w / offset_span) (sp.block + 1) _ _
       (λ l q. let z = empty_past g h.limits front back ws vs s sp f l in
       let both = all_taken g front back n t ws vs s made (omega arith) (omega arith) z.1 in
       (empty_is n t _ (omega (arith, z.0)) both, come_to_rest h 0 0 _ q refl (omega arith) (omega arith)))
-      (λ l q. load_on h _ _ record { puts = tt; takes = tt } q refl refl k)
+      (λ l q. load_on h _ _ tt q refl refl k)
       (next_of h)
 
   pub lone_OpenX : (sp : Cursor) → Here (Take (OpenX sp)) → Leads (Take (OpenX sp))
@@ -213,7 +222,7 @@ module _ (g : Grid) (n t : ℕ) (front back : Front) (ws : List ℕ) (vs : List 
       let was : old ≡ reserved_word g ws back.last = ap (reserved_word g ws) k.0 in
       let there : reserved_word g ws' back.last ≡ x = sym (ap (reserved_word g ws') k.0) ∙ get_or-set_same ws i x 0 long in
       let less = k.1 in
-      go_on h _ record { puts = tt; takes = tt } (next_of h) refl refl (k.0, omega (arith, k.0))
+      go_on h _ tt (next_of h) refl refl (k.0, omega (arith, k.0))
 
   pub lone_RaiseC : (sp : Cursor) → Here (Take (RaiseC sp)) → Leads (Take (RaiseC sp))
   lone_RaiseC sp h =
@@ -221,4 +230,4 @@ module _ (g : Grid) (n t : ℕ) (front back : Front) (ws : List ℕ) (vs : List 
       let ws' : List ℕ = slice_set ws 1 x in
       let k = h.knows in
       let same : reserved_word g ws' back.last ≡ reserved_word g ws back.last = get_or-set_other ws 1 _ x 0 (λ q. omega arith) in
-      go_on h _ record { puts = tt; takes = tt } (next_of h) refl refl (inr (same ∙ k.1))
+      go_on h _ tt (next_of h) refl refl (inr (same ∙ k.1))

@@ -1,5 +1,5 @@
 -- Where a cursor or a head that takes move lags, some take is at work: each step keeps this.
-use Rattle.std.proofs.Common.{◌≡◌, ℕ, ◌+◌, ◌*◌, ◌/◌, ◌<◌, ◌≤◌, ◌⊎◌, List, refl, sym, ap, ◌∙◌, subst, inl, inr, ⊎_elim, arith}
+use Rattle.std.proofs.Common.{◌≡◌, ℕ, ◌+◌, ◌*◌, ◌/◌, ◌<◌, ◌≤◌, ◌⊎◌, List, sym, ap, ◌∙◌, subst, inl, inr, ⊎_elim, arith}
 use Rattle.std.specs.Prelude.{Option, Some, slice_get, slice_set, slice_index}
 use Rattle.std.proofs.lemmas.List.{set-get_or}
 use Rattle.cursor_word.specs.Shape.{Grid, IsWithinLimits}
@@ -9,21 +9,18 @@ use Rattle.machine.proofs.Lists.{get_set_same, one_le_sum, sum_set}
 use Rattle.put_side.specs.Cursors.{Front, consumed_word, put_cursors, reserved_word}
 use Rattle.put_side.specs.Counts.{one_at}
 use Rattle.put_side.specs.Manned as put_work
-use Rattle.put_side.specs.Stages as stages
 use Rattle.put_side.specs.PutTable.{stage_in}
 use Rattle.put_side.proofs.Attends.{IsIdle}
 use Rattle.put_side.proofs.Commits.{one_met}
 use Rattle.put_side.proofs.Owns.{manned_own}
 use Rattle.bbq_core.specs.declared.phase.Phase.{Phase}
 use Rattle.bbq_core.specs.declared.phase.Phase.TheVariants.{Take}
-use Rattle.bbq_core.specs.declared.take_phase.TakePhase.{TakePhase}
 use Rattle.bbq_core.specs.declared.take_phase.TakePhase.TheVariants.{OpenR}
 use Rattle.bbq_core.specs.Types.{View}
 use Rattle.bbq_core.specs.Stage.{stage, stage_of}
 use Rattle.bbq_core.specs.Cursors.{TakeCursors, TakeWords, take_cursors}
 use Rattle.bbq_core.specs.Sound.{IsManned, in_all, opens_reserved, raises_consumer}
-use Rattle.bbq_core.proofs.Loads.{same_words}
-use Rattle.bbq_core.proofs.TakeSteps.{IsTakeWord, keeps_put_words}
+use Rattle.put_side.proofs.TakeWords.{same_words}
 
 -- the part of takes
 pub record IsTakeManned (g : Grid) (last : ℕ) (c : TakeCursors) (vs : List View) : Type 0 where
@@ -85,8 +82,3 @@ module _ (g : Grid) (limits : IsWithinLimits g) (front back : Front) (ws : List 
       (both_parts g front back ws (slice_set vs id v')
       (manned_own stage_of g front ws ws vs id v v' (stage p) (stage p) at (ap (stage_in stage) e) (same_words g ws) idle m.puts)
       (idle_take opened (take_cursors g ws) w (omega arith) (λ k. omega arith) (λ k. omega arith) take))
-
-module _ (g : Grid) (limits : IsWithinLimits g) (front back : Front) (ws : List ℕ) (vs : List View) (id : ℕ) (v v' : View) (at : slice_get vs id ≡ Some v) (q : TakePhase) (e : v.phase ≡ Some (Take q)) (m : IsManned g front back ws vs) (i x : ℕ) (word : IsTakeWord g i) where
-  -- a take leaves the part of puts
-  pub puts_manned : put_work.IsManned stage_of g front (put_cursors g (slice_set ws i x)) (slice_set vs id v')
-  puts_manned = manned_own stage_of g front ws (slice_set ws i x) vs id v v' stages.Away stages.Away at (ap (stage_in stage) e) (keeps_put_words g ws i x word) record { allocated = refl; producer = refl; entered = refl } m.puts

@@ -1,13 +1,12 @@
 -- Words are read, and the entry is consumed.
-use Rattle.std.proofs.Common.{◌≡◌, ℕ, ◌+◌, ◌-◌, ◌*◌, ◌/◌, ◌%◌, ◌^◌, ◌<◌, ◌≤◌, List, [], ◌∷◌, ◌++◌, length, refl, sym, ap, ◌∙◌, subst, inl, ⊎_elim, arith}
+use Rattle.std.proofs.Common.{◌≡◌, ℕ, ◌+◌, ◌*◌, ◌/◌, ◌%◌, ◌^◌, ◌<◌, ◌≤◌, List, [], ◌∷◌, ◌++◌, length, refl, sym, ap, ◌∙◌, subst, inl, ⊎_elim, arith}
 use Rattle.std.specs.Prelude.{Some, slice_get, slice_set, slice_index, take}
 use Rattle.std.specs.List.{sum_by}
 use Rattle.std.proofs.lemmas.List.{set-get_or, get_or-set_other, append-nil, map-append, take_all, take_more}
-use Rattle.std.proofs.lemmas.Bool.{cases_eq, cases_lt}
+use Rattle.std.proofs.lemmas.Bool.{cases_eq}
 use Rattle.std.proofs.lemmas.Bool.Decides.{nat_tests}
-use Rattle.std.proofs.lemmas.Nat.{div-mul-add, mod-mul-add}
 use Rattle.cursor_word.specs.Shape.{Grid, IsWithinLimits}
-use Rattle.cursor_word.specs.Cursor.{cursor_of, most_block, offset_span, place_at}
+use Rattle.cursor_word.specs.Cursor.{most_block, offset_span, place_at}
 use Rattle.cursor_word.specs.Layout.{entry_index}
 use Rattle.cursor_word.specs.declared.cursor.Cursor.{Cursor}
 use Rattle.cursor_word.proofs.Blocks.{same_near}
@@ -16,10 +15,10 @@ use Rattle.rail.specs.Items.{IsRising, placed, places}
 use Rattle.machine.specs.declared.op.After.TheVariants.{Next}
 use Rattle.machine.specs.Steps.{view_after, words_after}
 use Rattle.machine.proofs.Lists.{sum_set}
-use Rattle.put_side.specs.Cursors.{Front, allocated_word, consumed_word, place}
+use Rattle.put_side.specs.Cursors.{Front, consumed_word, place}
 use Rattle.put_side.specs.Counts.{makes, one_at, sum_below, times}
-use Rattle.put_side.specs.Entries.{HasWords, IsMade, IsPresent}
-use Rattle.put_side.specs.Stages as stages
+use Rattle.put_side.specs.Entries.{IsMade}
+use Rattle.put_side.specs.Stages.{Away}
 use Rattle.put_side.specs.PutTable.{stage_in}
 use Rattle.put_side.proofs.Sums.{get_push, sum_same, times_push, upto_same}
 use Rattle.put_side.proofs.Items.{made_counts}
@@ -27,7 +26,6 @@ use Rattle.put_side.proofs.Draws.{HasOneMore, one_more_at}
 use Rattle.put_side.proofs.Commits.{bumped, one_apart, one_met}
 use Rattle.put_side.proofs.Made.{made_same}
 use Rattle.put_side.proofs.Owns.{keeps_own}
-use Rattle.put_side.proofs.Stores.{made_block}
 use Rattle.bbq_core.specs.declared.phase.Phase.TheVariants.{Take}
 use Rattle.bbq_core.specs.declared.take_phase.TakePhase.{TakePhase}
 use Rattle.bbq_core.specs.declared.take_phase.TakePhase.TheVariants.{Read, Consume}
@@ -37,37 +35,18 @@ use Rattle.bbq_core.specs.Stage.{stage, stage_of}
 use Rattle.bbq_core.specs.Cursors.{TakeCursors, TakeWords, take_cursors}
 use Rattle.bbq_core.specs.Counts.{fetch_count, fetched, fetches, reading, reading_in, takes}
 use Rattle.bbq_core.specs.Sound.{IsSoundAt, TakeKnows, scene}
-use Rattle.bbq_core.proofs.Frames.{IsLater, after_step, fits_later, knows_later, quiet, take_cursors_are}
-use Rattle.bbq_core.proofs.Loads.{pick_less, same_words, seen_by}
+use Rattle.bbq_core.proofs.Frames.{IsLater, after_step, fits_later, knows_later, quiet, take_cursors_are, raised_later}
+use Rattle.put_side.proofs.Choices.{pick_less}
+use Rattle.put_side.proofs.Moments.{made_words_at, still_present}
+use Rattle.put_side.proofs.TakeWords.{same_words, seen_by}
 use Rattle.bbq_core.proofs.TakeFacts.{unread}
 use Rattle.bbq_core.proofs.TakeLoads.{knows_at}
-use Rattle.bbq_core.proofs.TakeSteps.{consumed_at, long_enough, puts_stay, raised_later}
+use Rattle.put_side.proofs.TakeWords.{consumed_at, long_enough, puts_stay}
 
 one_most : (p q : ℕ) → one_at p q ≤ 1
 one_most p q = grind (arith, nat_tests)
 
 module _ (g : Grid) (limits : IsWithinLimits g) (front back : Front) (ws : List ℕ) (vs : List View) (s : IsSoundAt g front back ws vs) where
-  -- the allocated cursor of a block that is not reused is of no later block
-  pub still_present : (k : ℕ) → k ≤ front.last → front.last < k + g.blocks → IsPresent (allocated_word g ws) k
-  still_present k to near =
-      let w = s.puts.places.words in
-      ⊎_elim (λ l. let f = w.full k l near in omega (arith, f.0))
-      (λ l. let e : k ≡ front.last = omega arith in let z = ap (allocated_word g ws) e in ⊎_elim (λ q. omega (arith, q.block)) (λ q. omega (arith, q.older, limits.blocks_from)) w.newest)
-      (cases_lt k front.last)
-
-  -- the words of a made place that is not reused
-  pub made_words_at : (at : Cursor) (words : List ℕ) → g.blocks ≤ at.block → at.offset < g.size → front.last < at.block + g.blocks → IsMade vs (placed (place_at g at) words) → HasWords g ws at words g.width × (length words ≡ g.width)
-  made_words_at at words from within near m =
-      let p : ℕ = place_at g at in
-      let f = s.puts.entries m.seat m.view m.at in
-      let is : cursor_of g p ≡ at =
-      let k : g.blocks + p / g.size ≡ at.block = ap (λ (z : ℕ). g.blocks + z) (div-mul-add (at.block - g.blocks) g.size at.offset within) ∙ omega arith in
-      let o : p % g.size ≡ at.offset = mod-mul-add (at.block - g.blocks) g.size at.offset within in λ i. record { block = k i; offset = o i } in
-      let block = made_block stage_of g limits front ws vs s.puts.places m.seat m.view m.number _ m.at m.there in
-      let b = ap (λ (c : Cursor). c.block) is in
-      let h = f.made_words m.number _ m.there (still_present (cursor_of g p).block block (omega arith)) in
-      (subst (λ (c : Cursor). HasWords g ws c words g.width) is h, f.made_wide m.number _ m.there)
-
   module _ (id : ℕ) (v : View) (here : slice_get vs id ≡ Some v) (at : Cursor) where
     -- load of an entry word, by what follows it
     reads : (next i : ℕ) (r : TakePhase) (x : ℕ) (read : List ℕ) → v.phase ≡ Some (Take (Read at next)) → reading_in g r ≡ place_at g at ∷ [] → TakeKnows g (scene g back ws vs) read r
@@ -78,7 +57,7 @@ module _ (g : Grid) (limits : IsWithinLimits g) (front back : Front) (ws : List 
         let later : IsLater (scene g back ws vs) (scene g back ws vs') = record { passed = refl; consumer = omega arith; reserved = λ k. omega arith; consumed = λ k. omega arith; committed = λ k. omega arith; made = made_same vs id v v' here refl } in
         subst (λ (w : List ℕ). IsSoundAt g front back w vs') (sym (set-get_or ws i 0))
         (quiet g front front back ws ws vs id v v' s here later (λ k. refl) (ap (λ (l : List ℕ). places v.taken ++ l) (holds ∙ sym (ap (reading g) e))) refl
-        (keeps_own stage_of g front ws ws vs id v v' stages.Away stages.Away here (ap (stage_in stage) e) (same_words g ws) refl record { made = refl; entry = refl; stands = refl } record { holds = refl; knows = tt; adds = λ k. inl refl } s.puts)
+        (keeps_own stage_of g front ws ws vs id v v' Away Away here (ap (stage_in stage) e) (same_words g ws) refl record { made = refl; entry = refl; stands = refl } record { holds = refl; knows = tt; adds = λ k. inl refl } s.puts)
         s.takes (knows_later g (scene g back ws vs) (scene g back ws vs') later v.made read (Some (Take r)) knows)
         (λ q h n. let z : Some (Take r) ≡ Some (Take q) = h in let y : reading_in g r ≡ reading_in g q = ap (reading g) z in let u = sym holds ∙ y ∙ n in cc))
 
@@ -91,13 +70,14 @@ module _ (g : Grid) (limits : IsWithinLimits g) (front back : Front) (ws : List 
         let cur = f.0 in
         let of = f.2 in
         let un = unread g front back ws vs s id v at here (ap (reading g) e) cur in
-        let has = made_words_at at of.words cur.from cur.within un.near of.made in
-        let short : next < length of.words = omega (arith, f.1, has.1) in
+        let known = made_words_at stage g front ws vs s.puts at of.words cur.from cur.within of.made in
+        let has = known.0 (still_present stage g front ws vs s.puts limits at.block (omega (arith, cur.to, s.takes.behind)) un.near) in
+        let short : next < length of.words = omega (arith, f.1, known.1) in
         let more : v.read ++ w ∷ [] ≡ take (next + 1) of.words =
-        ap (λ (l : List ℕ). l ++ w ∷ []) of.front ∙ ap (λ (z : ℕ). take next of.words ++ z ∷ []) (has.0 next f.1) ∙ sym (take_more of.words next 0 short) in
+        ap (λ (l : List ℕ). l ++ w ∷ []) of.front ∙ ap (λ (z : ℕ). take next of.words ++ z ∷ []) (has next f.1) ∙ sym (take_more of.words next 0 short) in
         pick_less (λ b. IsSoundAt g front back (slice_set ws i w) (slice_set vs id (seen_by v b (v.read ++ w ∷ []) w))) (next + 1) g.width _ _
         (λ l. reads next i (Read at (next + 1)) w (v.read ++ w ∷ []) e refl (cur, l, record { words = of.words; made = of.made; front = more }))
-        (λ l. let all : v.read ++ w ∷ [] ≡ of.words = more ∙ take_all (next + 1) of.words (omega (arith, has.1)) in
+        (λ l. let all : v.read ++ w ∷ [] ≡ of.words = more ∙ take_all (next + 1) of.words (omega (arith, known.1)) in
         reads next i (Consume at) w (v.read ++ w ∷ []) e refl (cur, subst (λ (z : List ℕ). IsMade vs (placed (place_at g at) z)) (sym all) of.made))
 
     -- one added to the consumed cursor
@@ -117,10 +97,10 @@ module _ (g : Grid) (limits : IsWithinLimits g) (front back : Front) (ws : List 
         let c : TakeCursors = take_cursors g ws in
         let b = w.consumed at.block cur.to cur.near in
         let word = consumed_at g at.block limits in
-        let long = long_enough g front back ws vs s id v v' here (Consume at) e refl i x word in
+        let long = long_enough g ws i x word stage_of front vs id v v' here (ap (stage_in stage) e) s.puts in
         let u : HasOneMore g at.block (consumed_word g ws) (consumed_word g ws') = one_more_at g ws 5 at.block limits.blocks_from (omega arith) long (omega (arith, cur.to, w.behind, b.0)) (omega (arith, un.room, limits.size_to)) in
         let up : slice_index ws i ≤ x = omega (arith, cur.to, w.behind, b.0) in
-        let later = raised_later g front back ws vs s id v v' here (Consume at) e refl i x word long up in
+        let later = raised_later g back ws vs id v v' here refl i x long up in
         let made = later.made in
         let mine : fetched g v ≡ places v.taken ++ p ∷ [] = ap (λ (l : List ℕ). places v.taken ++ l) (ap (reading g) e) in
         let same : fetched g v' ≡ fetched g v = append-nil _ ∙ map-append (λ (z : Placed). z.place) v.taken _ ∙ sym mine in
@@ -141,7 +121,7 @@ module _ (g : Grid) (limits : IsWithinLimits g) (front back : Front) (ws : List 
           newest = w.newest;
         } in
         after_step g front front back ws ws' vs id v v' s here back
-        (puts_stay g front back ws vs s id v v' here (Consume at) e refl i x word refl refl)
+        (puts_stay g ws i x word stage_of front vs id v v' here (ap (stage_in stage) e) s.puts record { made = refl; entry = refl; stands = refl })
         (subst (TakeWords g front.last back) (take_cursors_are g ws' c' (get_or-set_other ws i 1 x 0 (λ r. omega arith)) (λ k. get_or-set_other ws i _ x 0 (λ r. omega arith)) (λ k. refl)) takes')
         record {
           read_once = λ q. sum_same (fetches g q) vs id v v' here (ap (times q) same) ∙ n.read_once q;

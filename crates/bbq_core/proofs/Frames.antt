@@ -1,5 +1,5 @@
 -- What a seat remembers lasts, since words and made lists only grow; and what stays where a step reserves and consumes nothing.
-use Rattle.std.proofs.Common.{◌≡◌, ℕ, ◌+◌, ◌%◌, ◌≤◌, List, [], length, sym, ap, ◌∙◌, subst, inl, inr, ⊎_elim, arith}
+use Rattle.std.proofs.Common.{◌≡◌, ℕ, ◌+◌, ◌%◌, ◌<◌, ◌≤◌, List, [], length, refl, sym, ap, ◌∙◌, subst, inl, inr, ⊎_elim, arith}
 use Rattle.std.specs.Prelude.{Option, Some, slice_get, slice_set, slice_index}
 use Rattle.std.specs.List.{sum_by}
 use Rattle.cursor_word.specs.Shape.{Grid}
@@ -15,9 +15,12 @@ use Rattle.put_side.specs.PutSide.{PutSide}
 use Rattle.put_side.proofs.Sums.{sum_same, upto_same}
 use Rattle.put_side.proofs.Made.{KeepsMade}
 use Rattle.bbq_core.specs.declared.phase.Phase.{Phase}
-use Rattle.bbq_core.specs.declared.phase.Phase.TheVariants.{SeeR, OpenM, Take}
+use Rattle.bbq_core.specs.declared.phase.Phase.TheVariants.{Put, SeeR, Take}
+use Rattle.put_side.specs.declared.put_phase.PutPhase.TheVariants.{OpenM}
 use Rattle.bbq_core.specs.declared.take_phase.TakePhase.{TakePhase}
 use Rattle.bbq_core.specs.declared.take_phase.TakePhase.TheVariants.{HeadC, SeeRes, SeeCom, SeeAll, Reserve, Read, Consume, NextCom, OpenX, OpenR, RaiseC}
+use Rattle.put_side.proofs.Made.{made_same}
+use Rattle.put_side.proofs.Raises.{raised_to}
 use Rattle.bbq_core.specs.Types.{View}
 use Rattle.bbq_core.specs.Stage.{stage_of}
 use Rattle.bbq_core.specs.Cursors.{TakeCursors, TakeWords, take_cursors}
@@ -62,7 +65,7 @@ module _ (g : Grid) (s s' : Scene) (later : IsLater s s') where
   -- what a seat remembers lasts
   pub knows_later : (made : List Placed) (read : List ℕ) (ph : Option Phase) → Knows g s made read ph → Knows g s' made read ph
   knows_later made read (Some (SeeR full x)) f = f
-  knows_later made read (Some (OpenM full)) f = let e = later.consumed (full.block + 1) in omega (arith, f)
+  knows_later made read (Some (Put (OpenM full))) f = let e = later.consumed (full.block + 1) in omega (arith, f)
   knows_later made read (Some (Take q)) f = take_knows_later read q f
   knows_later made read ph f = tt
 
@@ -72,6 +75,18 @@ module _ (g : Grid) (s s' : Scene) (later : IsLater s s') where
     rising = f.rising;
     items = λ i item e. c.items item (f.items i item e);
     unread = f.unread;
+  }
+
+module _ (g : Grid) (back : Front) (ws : List ℕ) (vs : List View) (id : ℕ) (v v' : View) (at : slice_get vs id ≡ Some v) (made : v'.made ≡ v.made) (i x : ℕ) where
+  -- the scene is a later one, where a word is raised
+  pub raised_later : i < length ws → slice_index ws i ≤ x → IsLater (scene g back ws vs) (scene g back (slice_set ws i x) (slice_set vs id v'))
+  raised_later long up = record {
+    passed = refl;
+    consumer = raised_to ws i x _ long up;
+    reserved = λ k. raised_to ws i x _ long up;
+    consumed = λ k. raised_to ws i x _ long up;
+    committed = λ k. raised_to ws i x _ long up;
+    made = made_same vs id v v' at made;
   }
 
 -- the cursors of these words, from each of them

@@ -1,5 +1,5 @@
 -- Places are accepted and given out in order of time.
-use Rattle.std.proofs.Common.{◌≡◌, ℕ, suc, ◌+◌, ◌<◌, ◌≤◌, ◌≢◌, Bool, true, false, List, [], ◌∷◌, ◌++◌, length, sym, ap, ◌∙◌, subst, arith}
+use Rattle.std.proofs.Common.{◌≡◌, ℕ, suc, ◌+◌, ◌<◌, ◌≤◌, ◌≢◌, Bool, true, false, List, [], ◌∷◌, ◌++◌, length, ap, ◌∙◌, arith}
 use Rattle.std.specs.Prelude.{Some, None, if◌then◌else◌, nat_lt}
 use Rattle.std.specs.List.{AllByRecursion, sum_by}
 use Rattle.std.proofs.lemmas.List.{append-nil}
@@ -24,7 +24,7 @@ use Rattle.put_side.proofs.Sums.{one_to}
 use Rattle.put_side.proofs.Orders.{places_append}
 use Rattle.put_side.proofs.InTime.{counts_push, makes_last, once_dense, put_makes, puts_in_order, times_front}
 use Rattle.bbq_core.specs.declared.phase.Phase.{Phase}
-use Rattle.bbq_core.specs.declared.phase.Phase.TheVariants.{HeadP, SeeA, AddA, Write, Commit, SeeX, SeeR, OpenM, OpenA, RaiseP, Take}
+use Rattle.bbq_core.specs.declared.phase.Phase.TheVariants.{Put, SeeX, SeeR, Take}
 use Rattle.bbq_core.specs.declared.take_phase.TakePhase.TheVariants.{HeadC, SeeRes, SeeCom, SeeAll, Reserve, Read, Consume, NextCom, OpenX, OpenR, RaiseC}
 use Rattle.bbq_core.specs.Types.{After, View}
 use Rattle.bbq_core.specs.Counts.{fetches, reading, takes}
@@ -80,16 +80,9 @@ module _ (g : Grid) where
     by_phase (Take (OpenX spent)) = from_none (after g (Take (OpenX spent)) found)
     by_phase (Take (OpenR spent)) = from_none (after g (Take (OpenR spent)) found)
     by_phase (Take (RaiseC spent)) = from_none (after g (Take (RaiseC spent)) found)
-    by_phase (HeadP turn first) = from_none (after g (HeadP turn first) found)
-    by_phase (SeeA turn first head) = from_none (after g (SeeA turn first head) found)
-    by_phase (AddA turn first head) = from_none (after g (AddA turn first head) found)
-    by_phase (Write at next) = from_none (after g (Write at next) found)
-    by_phase (Commit at) = from_none (after g (Commit at) found)
+    by_phase (Put q) = from_none (after g (Put q) found)
     by_phase (SeeX full) = from_none (after g (SeeX full) found)
     by_phase (SeeR full x) = from_none (after g (SeeR full x) found)
-    by_phase (OpenM full) = from_none (after g (OpenM full) found)
-    by_phase (OpenA full) = from_none (after g (OpenA full) found)
-    by_phase (RaiseP full) = from_none (after g (RaiseP full) found)
 
   step_fetches : (p : ℕ) (v : View) (phase : Phase) (found : ℕ) → v.phase ≡ Some phase → fetches g p v ≤ fetches g p (seen table g v phase found)
   step_fetches p v phase found e =

@@ -4,7 +4,6 @@ pub mod Puts
 pub mod TakeFacts
 pub mod Loads
 pub mod TakeLoads
-pub mod TakeSteps
 pub mod TakeRaises
 pub mod Reserves
 pub mod Consumes
@@ -17,10 +16,8 @@ pub mod Keeping
 pub mod Small
 pub mod AtAnswers
 pub mod Settles
-pub mod Permutes
 pub mod Reached
 pub mod StepBound
-pub mod CallKinds
 pub mod Outcomes
 pub mod Recalled
 pub mod Trails
@@ -34,5 +31,4 @@ pub mod AtRest
 pub mod LoneLaw
 pub mod CallTable
 pub mod Promised
-pub mod SeatOrder
 pub mod InTime

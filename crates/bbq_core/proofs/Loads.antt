@@ -1,11 +1,10 @@
 -- Steps that change no word: of a put that looks at the older block, and of a take.
-use Rattle.std.proofs.Common.{◌≡◌, ℕ, ◌+◌, ◌*◌, ◌/◌, ◌%◌, ◌<◌, ◌≤◌, ◌≢◌, List, [], ◌∷◌, ◌++◌, Bool, true, false, refl, sym, ap, ◌∙◌, subst, inl, ⊎_elim, arith}
-use Rattle.std.specs.Prelude.{Some, slice_get, slice_set, slice_index, if◌then◌else◌, nat_lt, ◌==◌, ◌&&◌}
+use Rattle.std.proofs.Common.{◌≡◌, ℕ, ◌+◌, ◌*◌, ◌%◌, List, [], ◌++◌, refl, sym, ap, ◌∙◌, subst, inl, ⊎_elim, arith}
+use Rattle.std.specs.Prelude.{Some, slice_get, slice_set, slice_index, if◌then◌else◌}
 use Rattle.std.proofs.lemmas.Bool.{cases_lt}
-use Rattle.std.proofs.lemmas.Bool.Decides.{eqb_tells}
 use Rattle.std.proofs.lemmas.List.{set-get_or}
 use Rattle.cursor_word.specs.Shape.{Grid, IsWithinLimits}
-use Rattle.cursor_word.specs.Cursor.{offset_span, packed, unpacked}
+use Rattle.cursor_word.specs.Cursor.{unpacked}
 use Rattle.cursor_word.specs.declared.cursor.Cursor.{Cursor}
 use Rattle.rail.specs.declared.entry.Placed.{Placed}
 use Rattle.rail.specs.declared.answer.Answer.TheVariants as answer
@@ -13,71 +12,34 @@ use Rattle.rail.specs.declared.answer.Put.TheVariants as put
 use Rattle.rail.specs.declared.answer.Answer.{Answer}
 use Rattle.rail.specs.Items.{places}
 use Rattle.machine.specs.declared.op.After.TheVariants.{Next, Done}
-use Rattle.machine.specs.Steps.{answer_after, made_after, phase_after, taken_after, view_after, words_after}
-use Rattle.machine.proofs.Lists.{one_le_sum}
+use Rattle.machine.specs.Steps.{made_after, phase_after, taken_after, view_after, words_after}
 use Rattle.put_side.specs.Cursors.{Front, place, put_cursors}
-use Rattle.put_side.specs.Counts.{times}
 use Rattle.put_side.specs.Stages as stages
-use Rattle.put_side.specs.Stages.{PutStage}
+use Rattle.put_side.specs.Stages.{Fills}
+use Rattle.put_side.specs.PutSteps.{is_same, older_full}
+use Rattle.put_side.specs.declared.put_phase.PutPhase.TheVariants.{OpenM}
+use Rattle.put_side.proofs.Choices.{pick_any}
+use Rattle.put_side.proofs.Keeps.{stage_next}
+use Rattle.put_side.proofs.TakeWords.{made_none, same_words, seen_by}
 use Rattle.put_side.specs.Places.{IsFilled}
 use Rattle.put_side.specs.PutTable.{stage_after, stage_in}
-use Rattle.put_side.proofs.Sums.{by_test, by_test_le, none_from}
+use Rattle.put_side.proofs.Sums.{by_test_le}
 use Rattle.put_side.proofs.Facts.{all_below, allocated_to, filled_opened, physical, repacked}
-use Rattle.put_side.proofs.Frames.{IsNext, Leaves, makes_le}
+use Rattle.put_side.proofs.Frames.{IsNext, Leaves}
 use Rattle.put_side.proofs.Loads as put_loads
 use Rattle.put_side.proofs.Made.{made_same}
-use Rattle.put_side.proofs.Owns.{KeepsPutWords, keeps_own}
+use Rattle.put_side.proofs.Owns.{keeps_own}
 use Rattle.bbq_core.specs.declared.phase.Phase.{Phase}
-use Rattle.bbq_core.specs.declared.phase.Phase.TheVariants.{SeeX, SeeR, OpenM, Take}
+use Rattle.bbq_core.specs.declared.phase.Phase.TheVariants.{Put, SeeX, SeeR, Take}
 use Rattle.bbq_core.specs.declared.take_phase.TakePhase.{TakePhase}
 use Rattle.bbq_core.specs.Types.{After, View}
-use Rattle.bbq_core.specs.PutSteps.{consumed_or_not, full_or_busy, older_consumed}
-use Rattle.bbq_core.specs.TakeSteps.{is_same}
+use Rattle.bbq_core.specs.PutSteps.{consumed_or_not, full_or_busy}
 use Rattle.bbq_core.specs.Table.{table}
 use Rattle.bbq_core.specs.Stage.{stage, stage_of}
-use Rattle.bbq_core.specs.Counts.{claims, reading, reading_in}
+use Rattle.bbq_core.specs.Counts.{reading, reading_in}
 use Rattle.bbq_core.specs.Sound.{IsSoundAt, Knows, TakeKnows, scene}
 use Rattle.bbq_core.proofs.Frames.{IsLater, knows_later, quiet}
 use Rattle.bbq_core.proofs.TakeFacts.{opened_spent}
-
--- by what a test for equal numbers tells
-pub by_equal : (a b : ℕ) (P : Bool → Type 0) → (a ≡ b → P true) → (a ≢ b → P false) → P (a == b)
-by_equal a b P hit miss = ⊎_elim (λ t. subst P (sym t.0) (hit t.1)) (λ t. subst P (sym t.0) (miss t.1)) (eqb_tells a b)
-
--- what holds of both branches of a choice holds of the choice
-pub pick_less : (P : After → Type 0) (a b : ℕ) (x y : After) → (a < b → P x) → (b ≤ a → P y) → P (if nat_lt a b then x else y)
-pick_less P a b x y hit miss = by_test a b (λ c. P (if c then x else y)) hit miss
-
-pub pick_equal : (P : After → Type 0) (a b : ℕ) (x y : After) → (a ≡ b → P x) → (a ≢ b → P y) → P (if a == b then x else y)
-pick_equal P a b x y hit miss = by_equal a b (λ c. P (if c then x else y)) hit miss
-
-pub pick_any : (P : After → Type 0) (c : Bool) (x y : After) → P x → P y → P (if c then x else y)
-pick_any P true x y hit miss = hit
-pick_any P false x y hit miss = miss
-
--- by whether a found word is a cursor
-pub pick_same : (P : After → Type 0) (w : ℕ) (m : Cursor) (x y : After) → (w ≡ packed m → P x) → (m ≢ unpacked w → P y) → P (if is_same (unpacked w) m then x else y)
-pick_same P w m x y hit miss =
-    by_equal (w / offset_span) m.block (λ b. P (if b && ((w % offset_span) == m.offset) then x else y))
-    (λ k. by_equal (w % offset_span) m.offset (λ b. P (if b then x else y)) (λ o. hit (let r = repacked w in omega arith)) (λ n. miss (λ e. n (ap (λ (c : Cursor). c.offset) (sym e)))))
-    (λ n. miss (λ e. n (ap (λ (c : Cursor). c.block) (sym e))))
-
--- the view after a step, by what follows it, the words read and what is noted
-abbrev pub seen_by : View → After → List ℕ → ℕ → View
-seen_by v b read x =
-    record {
-      phase = phase_after b;
-      entry = v.entry;
-      made = made_after v.made v.entry b;
-      taken = taken_after v.taken v.read b;
-      read = read;
-      answer = answer_after v.answer b;
-      trail = v.trail ++ x ∷ [];
-    }
-
-pub stage_next : (b : After) → stage_in stage (phase_after b) ≡ stage_after stage b
-stage_next (Next p) = refl
-stage_next (Done a) = refl
 
 -- what may follow a step that makes and takes nothing, and reads the same place as before
 pub record IsNextOwn (g : Grid) (front back : Front) (ws : List ℕ) (vs : List View) (v : View) (read : List ℕ) (b : After) : Type 0 where
@@ -87,9 +49,6 @@ pub record IsNextOwn (g : Grid) (front back : Front) (ws : List ℕ) (vs : List 
   pub knows : Knows g (scene g back ws vs) v.made read (phase_after b)
   pub side : IsNext g front.last (put_cursors g ws) [] (stage_after stage b)
   pub unread : (q : TakePhase) → phase_after b ≡ Some (Take q) → reading_in g q ≡ [] → read ≡ []
-
-pub same_words : (g : Grid) (ws : List ℕ) → KeepsPutWords g ws ws
-same_words g ws = record { all = refl; producer = refl; allocated = λ k. refl; committed = λ k. refl; entries = λ i h. refl }
 
 module _ (g : Grid) (limits : IsWithinLimits g) (front back : Front) (ws : List ℕ) (vs : List View) (s : IsSoundAt g front back ws vs) (id : ℕ) (v : View) (at : slice_get vs id ≡ Some v) where
   abbrev After' : ℕ → After → List ℕ → ℕ → Type 0
@@ -102,7 +61,7 @@ module _ (g : Grid) (limits : IsWithinLimits g) (front back : Front) (ws : List 
   loads i x p b read e none next =
       let v' : View = seen_by v b read x in
       let vs' : List View = slice_set vs id v' in
-      let to : Leaves stage_of v v' (stage_after stage b) = record { made = next.made; entry = refl; stands = stage_next b } in
+      let to : Leaves stage_of v v' (stage_after stage b) = record { made = next.made; entry = refl; stands = stage_next stage b } in
       let later : IsLater (scene g back ws vs) (scene g back ws vs') = record { passed = refl; consumer = omega arith; reserved = λ k. omega arith; consumed = λ k. omega arith; committed = λ k. omega arith; made = made_same vs id v v' at next.made } in
       subst (λ (w : List ℕ). IsSoundAt g front back w vs') (sym (set-get_or ws i 0))
       (quiet g front front back ws ws vs id v v' s at later (λ k. refl)
@@ -111,10 +70,6 @@ module _ (g : Grid) (limits : IsWithinLimits g) (front back : Front) (ws : List 
       s.takes
       (subst (λ (l : List Placed). Knows g (scene g back ws vs') l read (phase_after b)) (sym next.made) (knows_later g (scene g back ws vs) (scene g back ws vs') later v.made read (phase_after b) next.knows))
       next.unread)
-
-  -- none of what a seat has made is beyond what is allocated
-  made_none : (q : ℕ) → front.next ≤ q → times q (places v.made) ≡ 0
-  made_none q le = let l = makes_le stage_of g q v in let m = one_le_sum (claims g q) vs id v at in let o = s.puts.places.counts.once q in let z = none_from q front.next le in omega arith
 
   -- an answer that hands no entry in or out
   pub answers : (a : Answer) → made_after {P = Phase} v.made v.entry (Done a) ≡ v.made → taken_after {P = Phase} v.taken v.read (Done a) ≡ v.taken → reading g v.phase ≡ [] → Next' v.read (Done a)
@@ -126,15 +81,15 @@ module _ (g : Grid) (limits : IsWithinLimits g) (front back : Front) (ws : List 
       let i : ℕ = 5 + 4 * ((full.block + 1) % g.blocks) in
       let w : ℕ = slice_index ws i in
       let p = s.puts.places in
-      let f : IsFilled g (put_cursors g ws) full = put_loads.knows_at stage_of g front ws vs id v v p at (stages.Fills full) (ap (stage_in stage) e) in
+      let f : IsFilled g (put_cursors g ws) full = put_loads.knows_at stage_of g front ws vs id v v p at (Fills full) (ap (stage_in stage) e) in
       let to = filled_opened p.words limits.blocks_from (physical g ws 2) full f in
       let none : reading g v.phase ≡ [] = ap (reading g) e in
       let next : Next' v.read (consumed_or_not g full w) =
-      by_test_le (older_consumed g full.block) w (λ b. Next' v.read (if b then Next (OpenM full) else Next (SeeR full (unpacked w))))
+      by_test_le (older_full g full.block) w (λ b. Next' v.read (if b then Next (Put (OpenM full)) else Next (SeeR full (unpacked w))))
       (λ l. record { made = refl; taken = refl; reads = sym none; knows = l; side = record { holds = refl; knows = f; adds = λ k. inl refl }; unread = λ q h n. cc })
       (λ l. let k : front.last ≡ full.block = ⊎_elim (λ n. absurd (let o = opened_spent s.takes limits.blocks_from (physical g ws 5) (full.block + 1) limits (omega (arith, f.from)) (omega arith) in omega arith)) (λ n. omega arith) (cases_lt full.block front.last) in
       let below = allocated_to p.words in
-      let c = all_below (place g (full.block + 1) 0) (places v.made) (λ q h. made_none q (let z = ap (λ (b : ℕ). place g (b + 1) 0) k in omega arith)) in
+      let c = all_below (place g (full.block + 1) 0) (places v.made) (λ q h. made_none stage_of g front (put_cursors g ws) vs p id v at q (let z = ap (λ (b : ℕ). place g (b + 1) 0) k in omega arith)) in
       record { made = refl; taken = refl; reads = sym none; knows = (let r = repacked w in omega arith, c); side = record { holds = refl; knows = f; adds = λ k. inl refl }; unread = λ q h n. cc }) in
       loads i w (SeeX full) (consumed_or_not g full w) v.read e refl next
 

@@ -8,10 +8,9 @@ use Rattle.cursor_word.specs.Cursor.{most_block, offset_span}
 use Rattle.rail.specs.declared.entry.Placed.{Placed}
 use Rattle.machine.specs.Invariant.{made_count, made_total}
 use Rattle.machine.specs.Steps.{finds, view_after, words_after}
-use Rattle.machine.proofs.Lists.{get_set, get_set_other, sum_set}
-use Rattle.put_side.specs.Cursors.{Front, allocated_word, reserved_word}
-use Rattle.put_side.specs.Counts.{makes, one_below}
-use Rattle.put_side.specs.Stages as stages
+use Rattle.machine.proofs.Lists.{get_set}
+use Rattle.put_side.specs.Cursors.{Front, reserved_word}
+use Rattle.put_side.specs.Counts.{one_below}
 use Rattle.put_side.specs.Stages.{PutStage}
 use Rattle.bbq_core.specs.declared.phase.Phase.{Phase}
 use Rattle.bbq_core.specs.declared.phase.Phase.TheVariants.{Take}
@@ -20,11 +19,15 @@ use Rattle.bbq_core.specs.Types.{After, View}
 use Rattle.bbq_core.specs.PutSteps.{after}
 use Rattle.bbq_core.specs.Table.{table}
 use Rattle.bbq_core.specs.Stage.{stage}
-use Rattle.bbq_core.specs.Counts.{held, reading, taken_count, taken_total, takes}
+use Rattle.bbq_core.specs.Counts.{reading, taken_count, taken_total, takes}
 use Rattle.bbq_core.specs.Sound.{IsManned, IsSoundAt, opens_reserved, raises_consumer}
-use Rattle.bbq_core.specs.Alone.{GoesOnAlone, IsAlone, IsStill, LoneKnows, OthersRest}
-use Rattle.bbq_core.proofs.Loads.{seen_by}
-use Rattle.bbq_core.proofs.Lone.{IsOnly, allocated_is, allocated_number, consumer_is, made_is, only_one, opens_allocated, producer_is, raises_producer, reserved_is, reserved_number, taken_is}
+use Rattle.bbq_core.specs.Alone.{GoesOnAlone, IsAlone, IsStill, LoneKnows}
+use Rattle.put_side.proofs.TakeWords.{seen_by}
+use Rattle.bbq_core.proofs.Lone.{consumer_is, reserved_is, reserved_number, taken_is}
+use Rattle.put_side.specs.Alone.{OthersRest, PutAlone}
+use Rattle.put_side.specs.PutTable.{stage_in}
+use Rattle.put_side.proofs.AlonePuts.{IsPutHere}
+use Rattle.put_side.proofs.Lone.{IsOnly, only_one, others_still, total_grows}
 use Rattle.bbq_core.proofs.Steps.{IsAfter, step_at}
 
 -- a seat alone, before its step
@@ -38,29 +41,15 @@ pub record IsHere (g : Grid) (n t : ℕ) (front back : Front) (ws : List ℕ) (v
   pub others : OthersRest vs id
   pub made : made_total vs ≡ n
   pub taken : taken_total vs ≡ t
-  pub knows : LoneKnows g front.last back.last n t ws p
+  pub knows : LoneKnows g back.last n t ws p
 
 abbrev pub Goes : Grid → ℕ → ℕ → List ℕ → List View → ℕ → View → Phase → Type 0
 Goes g n t ws vs id v p = GoesOnAlone g n t (words_after table g ws v p) (slice_set vs id (view_after table g ws v p)) id (after g p (finds table g ws v p))
 
--- a phase whose step opens no block
-abbrev pub IsNoOpenM : PutStage → Type 0
-IsNoOpenM (stages.OpenM full) = ⊥
-IsNoOpenM s = Unit {0}
-
+-- a phase whose step opens no block to takes
 abbrev pub IsNoOpenX : Phase → Type 0
 IsNoOpenX (Take (OpenX spent)) = ⊥
 IsNoOpenX p = Unit {0}
-
-pub record OpensNone (p : Phase) : Type 0 where
-  pub puts : IsNoOpenM (stage p)
-  pub takes : IsNoOpenX p
-
-others_still : (vs : List View) (id : ℕ) (v' : View) → OthersRest vs id → OthersRest (slice_set vs id v') id
-others_still vs id v' rest j u d e = rest j u d (sym (get_set_other vs id j v' d) ∙ e)
-
-total_grows : (f : View → ℕ) (vs : List View) (id d n : ℕ) (v v' : View) → slice_get vs id ≡ Some v → f v' ≡ f v + d → sum_by f vs ≡ n → sum_by f (slice_set vs id v') ≡ n + d
-total_grows f vs id d n v v' at e total = let z = sum_set f vs id v v' at in omega arith
 
 module _ {g : Grid} {n t : ℕ} {front back : Front} {ws : List ℕ} {vs : List View} {id : ℕ} {v : View} {p : Phase} (h : IsHere g n t front back ws vs id v p) where
   -- the state after the step
@@ -68,7 +57,7 @@ module _ {g : Grid} {n t : ℕ} {front back : Front} {ws : List ℕ} {vs : List 
   next_of = step_at g h.limits front back ws vs h.sound h.manned h.small id v h.at p h.phase
 
   -- a step after which the seat goes on
-  pub go_further : {ws' : List ℕ} {q : Phase} (v' : View) (k : IsAfter g p front back ws' (slice_set vs id v')) → v'.made ≡ v.made → v'.taken ≡ v.taken → LoneKnows g k.front'.last k.back'.last n t ws' q → IsAlone g n t ws' (slice_set vs id v') id q
+  pub go_further : {ws' : List ℕ} {q : Phase} (v' : View) (k : IsAfter g p front back ws' (slice_set vs id v')) → v'.made ≡ v.made → v'.taken ≡ v.taken → LoneKnows g k.back'.last n t ws' q → IsAlone g n t ws' (slice_set vs id v') id q
   go_further v' k made taken knows = record {
     front = k.front';
     back = k.back';
@@ -80,16 +69,15 @@ module _ {g : Grid} {n t : ℕ} {front back : Front} {ws : List ℕ} {vs : List 
     knows = knows;
   }
 
-  -- where it opens no block; and one of them that loads a word
-  pub go_on : {ws' : List ℕ} {q : Phase} (v' : View) → OpensNone p → IsAfter g p front back ws' (slice_set vs id v') → v'.made ≡ v.made → v'.taken ≡ v.taken → LoneKnows g front.last back.last n t ws' q → IsAlone g n t ws' (slice_set vs id v') id q
+  -- where it opens no block to takes; and one of them that loads a word
+  pub go_on : {ws' : List ℕ} {q : Phase} (v' : View) → IsNoOpenX p → IsAfter g p front back ws' (slice_set vs id v') → v'.made ≡ v.made → v'.taken ≡ v.taken → LoneKnows g back.last n t ws' q → IsAlone g n t ws' (slice_set vs id v') id q
   go_on {ws' = ws'} {q = q} v' none k made taken knows =
-      let f : front.last ≡ k.front'.last = ⊎_elim (λ e. sym e) (λ o. absurd (subst IsNoOpenM o.opens none.puts)) k.opened in
-      let b : back.last ≡ k.back'.last = ⊎_elim (λ e. sym e) (λ o. absurd (subst IsNoOpenX o.opens none.takes)) k.passed in
-      go_further v' k made taken (subst (λ (j : ℕ). LoneKnows g j k.back'.last n t ws' q) f (subst (λ (j : ℕ). LoneKnows g front.last j n t ws' q) b knows))
+      let b : back.last ≡ k.back'.last = ⊎_elim (λ e. sym e) (λ o. absurd (subst IsNoOpenX o.opens none)) k.passed in
+      go_further v' k made taken (subst (λ (j : ℕ). LoneKnows g j n t ws' q) b knows)
 
-  pub load_on : {q : Phase} (i : ℕ) (v' : View) → OpensNone p → IsAfter g p front back (slice_set ws i (slice_index ws i)) (slice_set vs id v') → v'.made ≡ v.made → v'.taken ≡ v.taken → LoneKnows g front.last back.last n t ws q
+  pub load_on : {q : Phase} (i : ℕ) (v' : View) → IsNoOpenX p → IsAfter g p front back (slice_set ws i (slice_index ws i)) (slice_set vs id v') → v'.made ≡ v.made → v'.taken ≡ v.taken → LoneKnows g back.last n t ws q
       → IsAlone g n t (slice_set ws i (slice_index ws i)) (slice_set vs id v') id q
-  load_on {q = q} i v' none k made taken knows = go_on v' none k made taken (subst (λ (w : List ℕ). LoneKnows g front.last back.last n t w q) (sym (set-get_or ws i 0)) knows)
+  load_on {q = q} i v' none k made taken knows = go_on v' none k made taken (subst (λ (w : List ℕ). LoneKnows g back.last n t w q) (sym (set-get_or ws i 0)) knows)
 
   -- the step that answers
   pub come_to_rest : {ws' : List ℕ} (m d : ℕ) (v' : View) → IsAfter g p front back ws' (slice_set vs id v') → v'.phase ≡ None → length v'.made ≡ length v.made + m → length v'.taken ≡ length v.taken + d → IsStill g (n + m) (t + d) ws' (slice_set vs id v')
@@ -111,11 +99,8 @@ module _ {g : Grid} {n t : ℕ} {front back : Front} {ws : List ℕ} {vs : List 
   only_here : IsOnly vs (Some p)
   only_here = only_one vs id v (Some p) h.others h.at h.phase
 
-  pub head_is : raises_producer front.last (Some p) ≡ 0 → slice_index ws 0 ≡ front.last
-  head_is z = producer_is g front back ws vs (Some p) h.limits h.sound h.manned only_here z
-
-  pub front_is : opens_allocated front.last (Some p) ≡ 0 → allocated_word g ws front.last / offset_span ≡ front.last
-  front_is z = allocated_is g front back ws vs (Some p) h.limits h.sound h.manned only_here z
+  pub put_here : (s : PutStage) → stage p ≡ s → PutAlone g n ws s → IsPutHere stage g n front ws vs id v s
+  put_here s is knows = record { limits = h.limits; side = h.sound.puts; manned = h.manned.puts; at = h.at; stands = ap (stage_in stage) h.phase ∙ is; others = h.others; made = h.made; knows = knows }
 
   pub tail_is : raises_consumer back.last (Some p) ≡ 0 → slice_index ws 1 ≡ back.last
   tail_is z = consumer_is g front back ws vs (Some p) h.limits h.sound h.manned only_here z
@@ -123,14 +108,8 @@ module _ {g : Grid} {n t : ℕ} {front back : Front} {ws : List ℕ} {vs : List 
   pub back_is : opens_reserved back.last (Some p) ≡ 0 → reserved_word g ws back.last / offset_span ≡ back.last
   back_is z = reserved_is g front back ws vs (Some p) h.limits h.sound h.manned only_here z
 
-  pub accepted_is : front.next ≡ n + length (held g (Some p))
-  accepted_is = let e = allocated_number g front back ws vs (Some p) h.limits h.sound h.manned only_here in let m = h.made in omega arith
-
   pub given_is : back.next ≡ t + length (reading g (Some p))
   given_is = let e = reserved_number g front back ws vs (Some p) h.limits h.sound h.manned only_here in let m = h.taken in omega arith
-
-  pub made_once : held g (Some p) ≡ [] → (q : ℕ) → sum_by (makes q) vs ≡ one_below q front.next
-  made_once none q = made_is g front back ws vs (Some p) h.limits h.sound h.manned only_here none q
 
   pub taken_once : reading g (Some p) ≡ [] → (q : ℕ) → sum_by (takes q) vs ≡ one_below q back.next
   taken_once none q = taken_is g front back ws vs (Some p) h.limits h.sound h.manned only_here none q

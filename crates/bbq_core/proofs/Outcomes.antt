@@ -1,24 +1,21 @@
 -- What each step tells of the answer that it gives.
-use Rattle.std.proofs.Common.{◌≡◌, ◌≢◌, ℕ, zero, suc, ◌+◌, ◌-◌, ◌*◌, ◌/◌, ◌%◌, ◌<◌, ◌≤◌, List, [], ◌∷◌, ◌++◌, cond, refl, sym, ap, ◌∙◌, subst, inl, inr, ⊎_elim, arith}
-use Rattle.std.specs.Prelude.{Option, Some, false, slice_get, if◌then◌else◌, ◌==◌, ◌&&◌}
+use Rattle.std.proofs.Common.{◌≡◌, ◌≢◌, ℕ, ◌+◌, ◌-◌, ◌*◌, ◌/◌, ◌%◌, ◌<◌, ◌≤◌, List, [], ◌∷◌, ◌++◌, sym, ap, ◌∙◌, subst, ⊎_elim, arith}
+use Rattle.std.specs.Prelude.{Option, Some, slice_get, if◌then◌else◌, ◌==◌, ◌&&◌}
 use Rattle.std.specs.List.{All, AllByRecursion, Contains, sum_by}
-use Rattle.std.proofs.lemmas.Bool.{and_from, both_ways, cases_eq, cases_lt, cond_both, eq-eqb}
-use Rattle.std.proofs.lemmas.Bool.Decides.{nat_tests}
+use Rattle.std.proofs.lemmas.Bool.{cases_lt, cond_both}
 use Rattle.std.proofs.lemmas.List.Elements.{All-from_recursion}
 use Rattle.std.proofs.lemmas.Nat.{mod_below}
-use Rattle.std.proofs.lemmas.Option.{slice_get-get_or}
 use Rattle.cursor_word.specs.Shape.{Grid, IsWithinLimits}
 use Rattle.cursor_word.specs.Cursor.{IsBefore, cursor, first_of, offset_span, packed, place_at, unpacked}
 use Rattle.cursor_word.specs.declared.cursor.Cursor.{Cursor}
 use Rattle.rail.specs.Items.{IsRising, placed, places}
 use Rattle.rail.specs.Rail.{Gains}
-use Rattle.rail.specs.declared.entry.Placed.{Placed}
 use Rattle.rail.specs.declared.answer.Put.TheVariants as put
 use Rattle.rail.specs.declared.answer.Take.TheVariants as take
-use Rattle.rail.specs.declared.answer.Why.TheVariants as why
 use Rattle.bbq_core.specs.declared.phase.Phase.{Phase}
-use Rattle.bbq_core.specs.declared.phase.Phase.TheVariants.{HeadP, SeeA, AddA, Write, Commit, SeeX, SeeR, OpenM, OpenA, RaiseP, Take}
+use Rattle.bbq_core.specs.declared.phase.Phase.TheVariants.{Put, SeeX, SeeR, Take}
 use Rattle.bbq_core.specs.declared.take_phase.TakePhase.TheVariants.{HeadC, SeeRes, SeeCom, SeeAll, Reserve, Read, Consume, NextCom, OpenX, OpenR, RaiseC}
+use Rattle.put_side.proofs.Moments.{made_within}
 use Rattle.bbq_core.specs.Types.{After, View, MachineState}
 use Rattle.machine.specs.declared.op.After.TheVariants.{Next, Done}
 use Rattle.rail.specs.declared.answer.Answer.TheVariants as answer
@@ -26,24 +23,27 @@ use Rattle.bbq_core.specs.Moments.{EmptyAt, FullAt}
 use Rattle.bbq_core.specs.Causes.{Differ}
 use Rattle.machine.proofs.Lists.{one_le_sum}
 use Rattle.cursor_word.proofs.Blocks.{latest, latest_is, same_block}
-use Rattle.bbq_core.proofs.AtAnswers.{empty_at, empty_past, full_at}
+use Rattle.bbq_core.proofs.AtAnswers.{empty_at, empty_past, full_last}
 use Rattle.machine.specs.Steps.{finds}
 use Rattle.put_side.specs.Cursors.{Front, allocated_word, committed_word, consumed_word, place, put_cursors, reserved_word}
-use Rattle.put_side.specs.Counts.{makes, one_at, times}
-use Rattle.put_side.specs.Entries.{IsMade}
-use Rattle.put_side.specs.Places.{IsFilled, IsTurn, PutKnows}
+use Rattle.put_side.specs.Counts.{makes}
+use Rattle.put_side.specs.Places.{IsFilled, PutKnows}
 use Rattle.put_side.specs.PutTable.{stage_in}
-use Rattle.put_side.proofs.Sums.{by_test_le, none_from, not_there, one_in, one_to, times-cons, two_le_sum, upto_none}
-use Rattle.put_side.proofs.Facts.{all_below, committed_below, found, physical, repacked}
+use Rattle.put_side.proofs.Sums.{by_test_le, none_from, one_in, upto_none}
+use Rattle.put_side.proofs.Facts.{all_below, physical, repacked}
 use Rattle.put_side.proofs.Loads as put_loads
 use Rattle.put_side.proofs.SeatItems.{gains, not_among, own_item}
-use Rattle.bbq_core.specs.PutSteps.{after, filled, older_consumed}
+use Rattle.bbq_core.specs.PutSteps.{after}
+use Rattle.put_side.specs.declared.put_phase.PutPhase.TheVariants.{OpenM}
+use Rattle.put_side.specs.PutSteps.{older_full}
+use Rattle.put_side.proofs.Full as at_full
+use Rattle.put_side.proofs.PutOutcomes.{before_from, put_tells, tested_other}
 use Rattle.bbq_core.specs.Table.{table}
 use Rattle.bbq_core.specs.Stage.{stage, stage_of}
-use Rattle.bbq_core.specs.Counts.{fetches, held, reading}
+use Rattle.bbq_core.specs.Counts.{fetches, reading}
 use Rattle.bbq_core.specs.Sound.{IsSound, IsSoundAt, Knows, TakeKnows, scene}
-use Rattle.bbq_core.proofs.Loads.{pick_equal, pick_less, pick_same}
-use Rattle.bbq_core.proofs.TakeFacts.{found_R, made_once, takes_le}
+use Rattle.put_side.proofs.Choices.{pick_equal, pick_less, pick_same}
+use Rattle.bbq_core.proofs.TakeFacts.{found_R, takes_le}
 use Rattle.bbq_core.proofs.TakeLoads.{committed_found, knows_at}
 
 -- what is so in the state in which a seat does the step of a phase, by what follows it: of an answer what it says of the
@@ -60,32 +60,12 @@ Tells g w v p (Done (answer.Take (take.Empty place))) = EmptyAt g w place × ((q
 Tells g w v p (Done (answer.Take (take.Busy reason))) = Differ reason p
 Tells g w v p (Done (answer.Take (take.Overrun place now))) = ⊥
 
--- cursors whose words are in order are in order
-before_from : (c d : Cursor) → d.offset < offset_span → packed c < packed d → IsBefore c d
-before_from c d fits l = ⊎_elim (λ q. inl q) (λ q. inr (omega arith, omega arith)) (cases_lt c.block d.block)
-
-other_word : (c : Cursor) (w : ℕ) → w ≢ packed c → c ≢ unpacked w
-other_word c w n e = n (sym (ap packed e ∙ repacked w))
-
-tested_other : (x y : Cursor) → ((x.block == y.block) && (x.offset == y.offset)) ≡ false → x ≢ y
-tested_other x y apart e = both_ways _ apart (and_from _ _ (eq-eqb x.block y.block (ap (λ (c : Cursor). c.block) e)) (eq-eqb x.offset y.offset (ap (λ (c : Cursor). c.offset) e)))
-
 module _ (g : Grid) (front back : Front) (ws : List ℕ) (vs : List View) (id : ℕ) (v : View) (limits : IsWithinLimits g) (s : IsSoundAt g front back ws vs) (here : slice_get vs id ≡ Some v) where
   abbrev w : MachineState
   w = record { words = ws; views = vs }
 
-  pub full_seen : (full : Cursor) → IsFilled g (put_cursors g ws) full → consumed_word g ws (full.block + 1) < older_consumed g full.block → FullAt g (record { words = ws; views = vs }) full.block (unpacked (consumed_word g ws (full.block + 1)))
-  full_seen full f less =
-      let q = full_at g limits front back ws vs s full f less in
-      let r = repacked (consumed_word g ws (full.block + 1)) in
-      let b = committed_below s.puts.places.words limits.blocks_from (physical g ws 3) (full.block + 1) in
-      record {
-        from = f.from;
-        allocated = λ p l. let o = s.puts.places.counts.once p in let z = one_in p front.next (omega (arith, q.1)) in omega arith;
-        not_opened = omega (arith, q.0);
-        consumed = refl;
-        not_consumed = before_from _ (cursor (full.block + 1 - g.blocks) g.size) (omega (arith, limits.size_to)) (omega arith);
-      }
+  pub full_seen : (full : Cursor) → IsFilled g (put_cursors g ws) full → consumed_word g ws (full.block + 1) < older_full g full.block → FullAt g (record { words = ws; views = vs }) full.block (unpacked (consumed_word g ws (full.block + 1)))
+  full_seen full f less = at_full.full_seen stage_of g limits front ws vs s.puts.places full f (full_last g limits front back ws vs s full f less) less
 
   empty_seen : (p : ℕ) → back.next ≡ p → sum_by (makes p) vs ≡ 0 → EmptyAt g (record { words = ws; views = vs }) p × ((q : ℕ) → Contains (places v.made) q → q ≢ p) × All (λ q. q < p) (places v.taken)
   empty_seen p e none =
@@ -127,15 +107,11 @@ module _ (g : Grid) (front back : Front) (ws : List ℕ) (vs : List View) (id : 
       let m_K : committed_word g ws r.block ≡ committed_word g ws front.last = ap (committed_word g ws) here_K in
       let block_K = words.committed front.last (omega arith) (omega arith) in
       let count = s.puts.places.counts.made front.last (omega arith) (omega arith) words.from in
-      let none = upto_none g.size (λ o. sum_by (makes (place g front.last o)) vs) (λ o. let y = made_once g front back ws vs s (place g front.last o) in let x = none_from (place g front.last o) front.next (omega (arith, q.at)) in omega arith) in
+      let none = upto_none g.size (λ o. sum_by (makes (place g front.last o)) vs) (λ o. let y = made_within stage g front ws vs s.puts (place g front.last o) in let x = none_from (place g front.last o) front.next (omega (arith, q.at)) in omega arith) in
       let a = f.1 in absurd (omega (arith, a.above, a.known)))
       (cases_lt r.block front.last))
       words.newest)
       (cases_lt k front.last)
-
-  filled_tells : (p : Phase) (turn : ℕ) (first : Cursor) (head old : ℕ) → IsTurn g turn first head → head ≤ old / offset_span → (first.block < old / offset_span → Differ (why.Moved first (unpacked old)) p)
-      → Tells g (record { words = ws; views = vs }) v p (filled turn first (unpacked old))
-  filled_tells p turn first head old f from differ = pick_equal (Tells g (record { words = ws; views = vs }) v p) turn 1 _ _ (λ e. tt) (λ n. ⊎_elim (λ e. absurd (n e)) (λ q. differ (omega (arith, q.below))) f)
 
   -- what the side of puts and what takes remember of the seat
   stood : (p : Phase) → v.phase ≡ Some p → PutKnows g front.last (put_cursors g ws) (stage p)
@@ -145,20 +121,10 @@ module _ (g : Grid) (front back : Front) (ws : List ℕ) (vs : List View) (id : 
   known p e = subst (Knows g (scene g back ws vs) v.made v.read) e (s.each id v here).knows
 
   pub step_tells : (p : Phase) → v.phase ≡ Some p → Tells g (record { words = ws; views = vs }) v p (after g p (finds table g ws v p))
-  step_tells (HeadP turn first) e = tt
-  step_tells (SeeA turn first head) e =
-      let f = stood (SeeA turn first head) e in
-      let is = found s.puts.places.words limits.blocks_from (physical g ws 2) head f.1.to in
-      pick_less (Tells g w v (SeeA turn first head)) (allocated_word g ws head % offset_span) g.size _ _ (λ l. tt) (λ l. filled_tells (SeeA turn first head) turn first head (allocated_word g ws head) f.0 is.from (λ q. q))
-  step_tells (AddA turn first head) e =
-      let f = stood (AddA turn first head) e in
-      let is = found s.puts.places.words limits.blocks_from (physical g ws 2) head f.1.to in
-      pick_less (Tells g w v (AddA turn first head)) (allocated_word g ws head % offset_span) g.size _ _ (λ l. tt) (λ l. filled_tells (AddA turn first head) turn first head (allocated_word g ws head) f.0 is.from (λ q. q))
-  step_tells (Write at next) e = pick_less (Tells g w v (Write at next)) (next + 1) g.width _ _ (λ l. tt) (λ l. tt)
-  step_tells (Commit at) e = gains v.made (placed (place_at g at) v.entry) (subst IsRising (ap (λ (ph : Option Phase). places v.made ++ held g ph) e) (s.puts.places.each id v here).rising)
+  step_tells (Put q) e = put_tells stage_of Put SeeX g limits front ws vs id v s.puts.places here (Tells g w v (Put q)) (record { next = λ q. tt; fills = λ full. tt; ok = λ place gains. gains; moved = λ a b less. less }) q (ap (stage_in stage) e)
   step_tells (SeeX full) e =
       let f = stood (SeeX full) e in
-      by_test_le (older_consumed g full.block) (consumed_word g ws (full.block + 1)) (λ c. Tells g w v (SeeX full) (if c then Next (OpenM full) else Next (SeeR full (unpacked (consumed_word g ws (full.block + 1)))))) (λ l. tt) (full_seen full f)
+      by_test_le (older_full g full.block) (consumed_word g ws (full.block + 1)) (λ c. Tells g w v (SeeX full) (if c then Next (Put (OpenM full)) else Next (SeeR full (unpacked (consumed_word g ws (full.block + 1)))))) (λ l. tt) (full_seen full f)
   step_tells (SeeR full x) e =
       let f = known (SeeR full x) e in
       let y : Cursor = unpacked (reserved_word g ws (full.block + 1)) in
@@ -168,9 +134,6 @@ module _ (g : Grid) (front back : Front) (ws : List ℕ) (vs : List View) (id : 
         All-from_recursion (λ (q : ℕ). q < first_of g (full.block + 1)) (places v.made) (subst (λ (b : ℕ). AllByRecursion (λ q. q < b) (places v.made)) (omega arith) f.1),
       ))
       (λ q. tested_other x y q)
-  step_tells (OpenM full) e = tt
-  step_tells (OpenA full) e = tt
-  step_tells (RaiseP full) e = tt
   step_tells (Take (HeadC turn first)) e = tt
   step_tells (Take (SeeRes turn first head)) e =
       let f = knows_at g limits front back ws vs s id v here (SeeRes turn first head) e in
@@ -205,7 +168,7 @@ module _ (g : Grid) (front back : Front) (ws : List ℕ) (vs : List View) (id : 
       let f = knows_at g limits front back ws vs s id v here (NextCom sp) e in
       let p : ℕ = (sp.block + 1 - g.blocks) * g.size in
       pick_less (Tells g w v (Take (NextCom sp))) (committed_word g ws (sp.block + 1) / offset_span) (sp.block + 1) _ _
-      (λ l. let z = empty_past g limits front back ws vs s sp f l in let m = made_once g front back ws vs s p in let n = none_from p front.next (omega (arith, z.0, z.1)) in let x = empty_seen p (omega (arith, z.0)) (omega arith) in (x.0, x.1, x.2))
+      (λ l. let z = empty_past g limits front back ws vs s sp f l in let m = made_within stage g front ws vs s.puts p in let n = none_from p front.next (omega (arith, z.0, z.1)) in let x = empty_seen p (omega (arith, z.0)) (omega arith) in (x.0, x.1, x.2))
       (λ l. tt)
   step_tells (Take (OpenX sp)) e = tt
   step_tells (Take (OpenR sp)) e = tt

@@ -10,7 +10,9 @@ use Rattle.machine.proofs.Runs.{moment_holds}
 use Rattle.put_side.proofs.Sums.{rising_front}
 use Rattle.bbq_core.specs.Types.{MachineState}
 use Rattle.bbq_core.specs.Table.{table}
-use Rattle.bbq_core.specs.Counts.{held, reading}
+use Rattle.bbq_core.specs.Counts.{reading}
+use Rattle.put_side.proofs.Moments as moments
+use Rattle.put_side.proofs.Moments.{places_dense}
 use Rattle.put_side.specs.Laws.{MadeRises, PlacesAreDense, TakenIsMade, TakenRises}
 use Rattle.bbq_core.specs.Laws.{TakenOnce}
 use Rattle.bbq_core.specs.Stage.{stage}
@@ -22,10 +24,10 @@ module _ (g : Grid) (events : List Event) (limits : IsWithinLimits g) (suits : A
   moment_sound n = moment_holds table IsSound keeps g limits events n suits few
 
 pub dense : (g : Grid) (w : MachineState) → IsSound g w.words w.views → PlacesAreDense stage g w.views
-dense g w k = record { count = k.front.next; once = k.sound.puts.places.counts.once }
+dense g w k = places_dense stage g k.front w.words w.views k.sound.puts
 
 pub made_rises : (g : Grid) (w : MachineState) → IsSound g w.words w.views → MadeRises w.views
-made_rises g w k id v at = rising_front _ (held g v.phase) ((k.sound.puts.places.each id v at).rising)
+made_rises g w k = moments.made_rises stage g k.front w.words w.views k.sound.puts
 
 pub taken_is_made : (g : Grid) (w : MachineState) → IsSound g w.words w.views → TakenIsMade w.views
 taken_is_made g w k id v at i item there = (k.sound.each id v at).items i item there

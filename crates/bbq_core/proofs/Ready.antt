@@ -8,28 +8,26 @@ use Rattle.rail.specs.Items.{placed}
 use Rattle.machine.specs.Invariant.{CanStep, IsRead, made_total}
 use Rattle.machine.specs.Steps.{finds}
 use Rattle.put_side.specs.Cursors.{Front, put_cursors, reserved_word}
-use Rattle.put_side.specs.Places.{IsCurrent, IsFilled, IsTurn, PutKnows}
+use Rattle.put_side.specs.Places.{PutKnows}
 use Rattle.put_side.specs.PutTable.{stage_in}
-use Rattle.put_side.proofs.Facts.{filled_opened, physical}
+use Rattle.put_side.proofs.Facts.{physical}
 use Rattle.put_side.proofs.Few.{last_small}
 use Rattle.put_side.proofs.Loads as put_loads
 use Rattle.bbq_core.specs.declared.phase.Phase.{Phase}
-use Rattle.bbq_core.specs.declared.phase.Phase.TheVariants.{HeadP, SeeA, AddA, Write, Commit, SeeX, SeeR, OpenM, OpenA, RaiseP, Take}
+use Rattle.bbq_core.specs.declared.phase.Phase.TheVariants.{Put, SeeX, SeeR, Take}
 use Rattle.bbq_core.specs.declared.take_phase.TakePhase.TheVariants.{HeadC, SeeRes, SeeCom, SeeAll, Reserve, Read, Consume, NextCom, OpenX, OpenR, RaiseC}
 use Rattle.bbq_core.specs.Types.{View}
 use Rattle.bbq_core.specs.Table.{table}
-use Rattle.bbq_core.specs.PutSteps.{FindsFit, IsInRange, after, older_consumed}
-use Rattle.bbq_core.specs.TakeSteps as take_steps
+use Rattle.bbq_core.specs.PutSteps.{FindsFit, IsInRange, after}
+use Rattle.put_side.specs.PutSteps as puts
+use Rattle.put_side.specs.PutSteps.{is_same, older_full}
+use Rattle.put_side.proofs.PutReady.{current_in, filled_in, put_reads_none, put_ready}
 use Rattle.bbq_core.specs.Stage.{stage, stage_of}
 use Rattle.bbq_core.specs.Sound.{IsSound, IsSoundAt, Knows, TakeTurn, scene}
-use Rattle.bbq_core.proofs.Loads.{pick_any}
+use Rattle.put_side.proofs.Choices.{pick_any}
 use Rattle.bbq_core.proofs.TakeFacts.{reserved_below}
 
-turn_is : (g : Grid) (turn : ℕ) (first : Cursor) (head : ℕ) → IsTurn g turn first head → take_steps.IsTurn turn
-turn_is g turn first head (inl e) = inl e
-turn_is g turn first head (inr r) = inr r.is
-
-take_turn_is : (g : Grid) (turn : ℕ) (first : Cursor) (head : ℕ) → TakeTurn g turn first head → take_steps.IsTurn turn
+take_turn_is : (g : Grid) (turn : ℕ) (first : Cursor) (head : ℕ) → TakeTurn g turn first head → puts.IsTurn turn
 take_turn_is g turn first head (inl e) = inl e
 take_turn_is g turn first head (inr r) = inr r.is
 
@@ -39,33 +37,20 @@ record IsReady (g : Grid) (ws : List ℕ) (v : View) (p : Phase) : Type 0 where
   pub found : FindsFit p (finds table g ws v p)
 
 module _ (g : Grid) (front back : Front) (ws : List ℕ) (vs : List View) (limits : IsWithinLimits g) (s : IsSoundAt g front back ws vs) (few : front.last ≤ most_block) where
-  filled_in : (full : Cursor) → IsFilled g (put_cursors g ws) full → (g.blocks ≤ full.block) × (full.block ≤ most_block)
-  filled_in full f = let to = filled_opened s.puts.places.words limits.blocks_from (physical g ws 2) full f in (f.from, omega arith)
-
-  current_in : (at : Cursor) (b : ℕ) → b ≤ front.last → IsCurrent g b at → ((g.blocks ≤ at.block) × (at.block ≤ most_block)) × (at.offset < g.size)
-  current_in at b le c = ((c.from, omega (arith, c.to)), c.within)
-
   known_in : (r : Cursor) → g.blocks ≤ r.block → packed r ≤ reserved_word g ws r.block → (g.blocks ≤ r.block) × (r.block ≤ most_block)
   known_in r from known = let b = reserved_below s.takes limits.blocks_from (physical g ws 4) r.block in (from, omega (arith, s.takes.behind))
 
   ready : (v : View) (p : Phase) → PutKnows g front.last (put_cursors g ws) (stage p) → Knows g (scene g back ws vs) v.made v.read (Some p) → IsReady g ws v p
-  ready v (HeadP turn first) k q = record { range = turn_is g turn first _ k; found = omega (arith, s.puts.places.words.head_to) }
-  ready v (SeeA turn first head) k q = record { range = (turn_is g turn first _ k.0, (k.1.from, omega (arith, k.1.to, s.puts.places.words.head_to))); found = tt }
-  ready v (AddA turn first head) k q = record { range = (turn_is g turn first _ k.0, (k.1.from, omega (arith, k.1.to, s.puts.places.words.head_to))); found = tt }
-  ready v (Write at next) k q = let c = current_in at front.last (omega arith) k.0 in record { range = (c.0, c.1, k.1); found = tt }
-  ready v (Commit at) k q = record { range = current_in at front.last (omega arith) k; found = tt }
-  ready v (SeeX full) k q = record { range = filled_in full k; found = tt }
-  ready v (SeeR full x) k q = record { range = filled_in full k; found = tt }
-  ready v (OpenM full) k q = record { range = filled_in full k; found = tt }
-  ready v (OpenA full) k q = record { range = filled_in full k.0; found = tt }
-  ready v (RaiseP full) k q = record { range = filled_in full k.0; found = tt }
+  ready v (Put q) k r = let p = put_ready stage_of g front ws vs limits s.puts.places few v.entry q k in record { range = p.range; found = p.found }
+  ready v (SeeX full) k q = record { range = filled_in stage_of g front ws vs limits s.puts.places few full k; found = tt }
+  ready v (SeeR full x) k q = record { range = filled_in stage_of g front ws vs limits s.puts.places few full k; found = tt }
   ready v (Take (HeadC turn first)) k q = record { range = take_turn_is g turn first _ q; found = omega (arith, s.takes.head_to, s.takes.behind) }
   ready v (Take (SeeRes turn first head)) k q = record { range = (take_turn_is g turn first _ q.0, (q.1, omega (arith, q.2, s.takes.head_to, s.takes.behind))); found = tt }
   ready v (Take (SeeCom r)) k q = record { range = (known_in r q.from q.known, q.within); found = tt }
   ready v (Take (SeeAll r m)) k q = let n = known_in r q.0.from q.0.known in record { range = (n, q.0.within); found = tt }
   ready v (Take (Reserve r)) k q = record { range = (known_in r q.0.from q.0.known, q.0.within); found = tt }
-  ready v (Take (Read at next)) k q = let c = current_in at back.last s.takes.behind q.0 in record { range = (c.0, c.1, q.1); found = tt }
-  ready v (Take (Consume at)) k q = record { range = current_in at back.last s.takes.behind q.0; found = tt }
+  ready v (Take (Read at next)) k q = let c = current_in stage_of g front ws vs limits s.puts.places few at back.last s.takes.behind q.0 in record { range = (c.0, c.1, q.1); found = tt }
+  ready v (Take (Consume at)) k q = record { range = current_in stage_of g front ws vs limits s.puts.places few at back.last s.takes.behind q.0; found = tt }
   ready v (Take (NextCom spent)) k q = record { range = known_in spent q.from q.known; found = tt }
   ready v (Take (OpenX spent)) k q = record { range = known_in spent q.0.from q.0.known; found = tt }
   ready v (Take (OpenR spent)) k q = record { range = known_in spent q.0.from q.0.known; found = tt }
@@ -73,20 +58,13 @@ module _ (g : Grid) (front back : Front) (ws : List ℕ) (vs : List View) (limit
 
   -- a take ends with an entry only where it has read all its words
   read_in : (v : View) (p : Phase) (found : ℕ) → Knows g (scene g back ws vs) v.made v.read (Some p) → IsRead g (after g p found) v.read
-  read_in v (HeadP turn first) found q = tt
-  read_in v (SeeA turn first head) found q = pick_any (λ b. IsRead g b v.read) (nat_lt (found % offset_span) g.size) _ _ tt (pick_any (λ b. IsRead g b v.read) (turn == 1) _ _ tt tt)
-  read_in v (AddA turn first head) found q = pick_any (λ b. IsRead g b v.read) (nat_lt (found % offset_span) g.size) _ _ tt (pick_any (λ b. IsRead g b v.read) (turn == 1) _ _ tt tt)
-  read_in v (Write at next) found q = pick_any (λ b. IsRead g b v.read) (nat_lt (next + 1) g.width) _ _ tt tt
-  read_in v (Commit at) found q = tt
-  read_in v (SeeX full) found q = pick_any (λ b. IsRead g b v.read) (nat_le (older_consumed g full.block) found) _ _ tt tt
-  read_in v (SeeR full x) found q = pick_any (λ b. IsRead g b v.read) (take_steps.is_same x (unpacked found)) _ _ tt tt
-  read_in v (OpenM full) found q = tt
-  read_in v (OpenA full) found q = tt
-  read_in v (RaiseP full) found q = tt
+  read_in v (Put p) found q = put_reads_none Put SeeX g p found v.read
+  read_in v (SeeX full) found q = pick_any (λ b. IsRead g b v.read) (nat_le (older_full g full.block) found) _ _ tt tt
+  read_in v (SeeR full x) found q = pick_any (λ b. IsRead g b v.read) (is_same x (unpacked found)) _ _ tt tt
   read_in v (Take (HeadC turn first)) found q = tt
   read_in v (Take (SeeRes turn first head)) found q = pick_any (λ b. IsRead g b v.read) (nat_lt (found % offset_span) g.size) _ _ tt (pick_any (λ b. IsRead g b v.read) (turn == 1) _ _ tt tt)
   read_in v (Take (SeeCom r)) found q = pick_any (λ b. IsRead g b v.read) (found == packed r) _ _ tt (pick_any (λ b. IsRead g b v.read) (nat_lt r.block (found / offset_span)) _ _ tt (pick_any (λ b. IsRead g b v.read) ((found % offset_span) == g.size) _ _ tt tt))
-  read_in v (Take (SeeAll r m)) found q = pick_any (λ b. IsRead g b v.read) (take_steps.is_same (unpacked found) m) _ _ tt (pick_any (λ b. IsRead g b v.read) ((found / offset_span) == m.block) _ _ tt tt)
+  read_in v (Take (SeeAll r m)) found q = pick_any (λ b. IsRead g b v.read) (is_same (unpacked found) m) _ _ tt (pick_any (λ b. IsRead g b v.read) ((found / offset_span) == m.block) _ _ tt tt)
   read_in v (Take (Reserve r)) found q = pick_any (λ b. IsRead g b v.read) (found == packed r) _ _ tt tt
   read_in v (Take (Read at next)) found q = pick_any (λ b. IsRead g b v.read) (nat_lt (next + 1) g.width) _ _ tt tt
   read_in v (Take (Consume at)) found q = let m = q.1 in (s.puts.entries m.seat m.view m.at).made_wide m.number (placed (place_at g at) v.read) m.there

@@ -25,16 +25,20 @@ use Rattle.put_side.proofs.Items.{made_there}
 use Rattle.put_side.proofs.Draws.{below_more}
 use Rattle.bbq_core.specs.declared.phase.Phase.TheVariants.{Take}
 use Rattle.bbq_core.specs.declared.take_phase.TakePhase.TheVariants.{Reserve, Read}
+use Rattle.put_side.specs.PutTable.{stage_in}
+use Rattle.bbq_core.specs.Stage.{stage, stage_of}
 use Rattle.bbq_core.specs.Types.{After, View}
 use Rattle.bbq_core.specs.Table.{table}
 use Rattle.bbq_core.specs.Cursors.{TakeCursors, TakeWords, take_cursors}
 use Rattle.bbq_core.specs.Counts.{fetch_count, fetched, fetches, reading, takes}
 use Rattle.bbq_core.specs.Sound.{IsSoundAt}
-use Rattle.bbq_core.proofs.Frames.{after_step, fits_later, take_cursors_are}
-use Rattle.bbq_core.proofs.Loads.{answers, loads, pick_equal, seen_by}
+use Rattle.bbq_core.proofs.Frames.{after_step, fits_later, take_cursors_are, raised_later}
+use Rattle.put_side.proofs.Choices.{pick_equal}
+use Rattle.put_side.proofs.TakeWords.{seen_by}
+use Rattle.bbq_core.proofs.Loads.{answers, loads}
 use Rattle.bbq_core.proofs.TakeFacts.{reserved_below}
 use Rattle.bbq_core.proofs.TakeLoads.{knows_at}
-use Rattle.bbq_core.proofs.TakeSteps.{long_enough, puts_stay, raised_later, reserved_at}
+use Rattle.put_side.proofs.TakeWords.{long_enough, puts_stay, reserved_at}
 
 -- the next place to be reserved is one further
 abbrev pub and_one : Front → Front
@@ -82,7 +86,7 @@ module _ (g : Grid) (limits : IsWithinLimits g) (front back : Front) (ws : List 
       (cases_lt (latest g.blocks r.block back.last) back.last) in
       let m = mod_below r.block g.blocks (omega arith) in
       let word = reserved_at g r.block limits in
-      let long = long_enough g front back ws vs s id v v' at (Reserve r) e refl i x word in
+      let long = long_enough g ws i x word stage_of front vs id v v' at (ap (stage_in stage) e) s.puts in
       let same_J : back.last % g.blocks ≡ r.block % g.blocks = ap (λ (b : ℕ). b % g.blocks) (sym top.0) in
       let is : reserved_word g ws' back.last ≡ x = ap (λ (b : ℕ). slice_index ws' (4 + 4 * b)) same_J ∙ get_or-set_same ws i x 0 long in
       let other : (k : ℕ) → k < back.last → back.last < k + g.blocks → reserved_word g ws' k ≡ reserved_word g ws k = λ k n near. get_or-set_other ws i _ x 0
@@ -94,7 +98,7 @@ module _ (g : Grid) (limits : IsWithinLimits g) (front back : Front) (ws : List 
       let mine' : fetched g v' ≡ places v.taken ++ t ∷ [] = ap (λ (p : ℕ). places v.taken ++ p ∷ []) here in
       let taken_same : (q : ℕ) → sum_by (takes q) (slice_set vs id v') ≡ sum_by (takes q) vs = λ q. sum_same (takes q) vs id v v' at refl in
       let first = made_there vs (place_at g r) (f.1 r.offset (omega arith)) in
-      let later = raised_later g front back ws vs s id v v' at (Reserve r) e refl i x word long (omega arith) in
+      let later = raised_later g back ws vs id v v' at refl i x long (omega arith) in
       let made = later.made in
       let c' : TakeCursors = record { consumer = c.consumer; reserved = reserved_word g ws'; consumed = c.consumed } in
       let takes : TakeWords g front.last (and_one back) c' = record {
@@ -109,7 +113,7 @@ module _ (g : Grid) (limits : IsWithinLimits g) (front back : Front) (ws : List 
         newest = let small = limits.size_to in let within = f.0.within in inl record { block = omega (arith, top.0); within = omega arith; at = let y : reserved_word g ws' back.last % offset_span ≡ r.offset + 1 = omega arith in omega (arith, top.1) };
       } in
       after_step g front front back ws ws' vs id v v' s at (and_one back)
-      (puts_stay g front back ws vs s id v v' at (Reserve r) e refl i x word refl refl)
+      (puts_stay g ws i x word stage_of front vs id v v' at (ap (stage_in stage) e) s.puts record { made = refl; entry = refl; stands = refl })
       (subst (TakeWords g front.last (and_one back)) (take_cursors_are g ws' c' (get_or-set_other ws i 1 x 0 (λ q. omega arith)) (λ k. refl) sx) takes)
       record {
         read_once = λ p. let n' = sum_set (fetches g p) vs id v v' at in let o : fetches g p v ≡ times p (places v.taken) = ap (times p) mine in

@@ -15,7 +15,7 @@ use Rattle.machine.proofs.Lists.{get_replicate, set_again}
 use Rattle.put_side.specs.Cursors.{Front, consumed_word, place}
 use Rattle.put_side.specs.Counts.{one_below}
 use Rattle.put_side.specs.PutSide.{PutSide}
-use Rattle.put_side.specs.Stages as stages
+use Rattle.put_side.specs.Stages.{Away}
 use Rattle.put_side.specs.PutTable.{stage_in}
 use Rattle.put_side.proofs.Sums.{none_from, upto_none}
 use Rattle.put_side.proofs.Begins.{begins_away, begins_put, start_front, start_manned, start_side, start_word_is, starts_at}
@@ -32,7 +32,7 @@ use Rattle.bbq_core.specs.Counts.{TakeCounts, fetch_count, fetches, reading, rea
 use Rattle.bbq_core.specs.Sound.{IsManned, IsSound, IsSoundAt, Knows, TakeFits, opens_reserved, raises_consumer, scene}
 use Rattle.bbq_core.proofs.Frames.{quiet}
 use Rattle.bbq_core.proofs.Attends.{both_parts, stays_take, take_part}
-use Rattle.bbq_core.proofs.Loads.{same_words}
+use Rattle.put_side.proofs.TakeWords.{same_words}
 
 module _ (g : Grid) (front back : Front) (ws : List ℕ) (vs : List View) (id : ℕ) (v : View) (at : slice_get vs id ≡ Some v) (rests : v.phase ≡ None) where
   -- a seat at rest begins a call
@@ -59,7 +59,7 @@ module _ (g : Grid) (front back : Front) (ws : List ℕ) (vs : List View) (id : 
       let o : opens_reserved back.last v.phase ≡ 0 = ap (opens_reserved back.last) rests in
       let r : raises_consumer back.last v.phase ≡ 0 = ap (raises_consumer back.last) rests in
       both_parts g front back ws (slice_set vs id v')
-      (manned_own stage_of g front ws ws vs id v v' stages.Away stages.Away at (ap (stage_in stage) rests) (same_words g ws) record { allocated = refl; producer = refl; entered = refl } m.puts)
+      (manned_own stage_of g front ws ws vs id v v' Away Away at (ap (stage_in stage) rests) (same_words g ws) record { allocated = refl; producer = refl; entered = refl } m.puts)
       (stays_take g limits front.last back (take_cursors g ws) (take_cursors g ws) vs id v v' at s.takes (take_part g front back ws vs m) (omega arith) (λ k. omega arith) (λ k. omega arith) (inl (omega arith)) (inl (omega arith)))
 
 pub begins : (g : Grid) (ws : List ℕ) (vs : List View) (id : ℕ) (v : View) (b : Start) → IsWithinLimits g → IsSound g ws vs → slice_get vs id ≡ Some v → v.phase ≡ None → IsWide g b → MayBegin g id b → IsSound g ws (slice_set vs id (begun table g v None b))

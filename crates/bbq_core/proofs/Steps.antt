@@ -10,32 +10,35 @@ use Rattle.cursor_word.specs.declared.cursor.Cursor.{Cursor}
 use Rattle.machine.specs.Steps.{view_after, words_after}
 use Rattle.machine.proofs.Lists.{get_set_same}
 use Rattle.put_side.specs.Cursors.{Front, reserved_word}
-use Rattle.put_side.specs.PutTable.{IsShared}
+use Rattle.put_side.specs.declared.put_phase.PutPhase.{PutPhase}
 use Rattle.put_side.specs.Counts.{one_at}
 use Rattle.put_side.proofs.Facts.{physical}
 use Rattle.put_side.proofs.Attends.{IsIdle}
 use Rattle.put_side.proofs.Commits.{one_apart}
 use Rattle.put_side.proofs.Keeps.{OpensNext}
 use Rattle.bbq_core.specs.declared.phase.Phase.{Phase}
-use Rattle.bbq_core.specs.declared.phase.Phase.TheVariants.{HeadP, SeeA, AddA, Write, Commit, SeeX, SeeR, OpenM, OpenA, RaiseP, Take}
+use Rattle.bbq_core.specs.declared.phase.Phase.TheVariants.{Put, SeeX, SeeR, Take}
 use Rattle.bbq_core.specs.declared.take_phase.TakePhase.{TakePhase}
 use Rattle.bbq_core.specs.declared.take_phase.TakePhase.TheVariants.{HeadC, SeeRes, SeeCom, SeeAll, Reserve, Read, Consume, NextCom, OpenX, OpenR, RaiseC}
+use Rattle.put_side.specs.PutTable.{stage_in}
 use Rattle.bbq_core.specs.Types.{View}
 use Rattle.bbq_core.specs.Table.{table}
-use Rattle.bbq_core.specs.Stage.{stage}
+use Rattle.bbq_core.specs.Stage.{stage, stage_of}
 use Rattle.bbq_core.specs.Cursors.{TakeWords, take_cursors}
 use Rattle.bbq_core.specs.Sound.{IsManned, IsSoundAt, opens_reserved, raises_consumer}
+use Rattle.bbq_core.proofs.Frames.{raised_later}
 use Rattle.bbq_core.proofs.Puts.{keeps_put, shared_step}
 use Rattle.bbq_core.proofs.Loads.{keeps_SeeR, keeps_SeeX}
 use Rattle.bbq_core.proofs.TakeLoads.{keeps_HeadC, keeps_NextCom, keeps_SeeAll, keeps_SeeCom, keeps_SeeRes}
 use Rattle.bbq_core.proofs.PutSteps.{take_makes_none}
 use Rattle.bbq_core.proofs.TakeFacts.{consumed_below}
-use Rattle.bbq_core.proofs.TakeSteps.{IsTakeWord, consumed_at, head_at, long_enough, raised_later, reserved_at}
+use Rattle.put_side.proofs.TakeWords.{IsTakeWord, consumed_at, head_at, long_enough, reserved_at}
 use Rattle.bbq_core.proofs.TakeRaises.{keeps_OpenR, keeps_RaiseC}
 use Rattle.bbq_core.proofs.Reserves.{keeps_Reserve}
 use Rattle.bbq_core.proofs.Consumes.{keeps_Consume, keeps_Read}
 use Rattle.bbq_core.proofs.TakeOpens.{PassesNext, keeps_OpenX}
-use Rattle.bbq_core.proofs.Attends.{IsIdleTake, IsTakeManned, both_parts, idle_take, load_manned, opens_take, puts_manned, stays_take, take_part}
+use Rattle.put_side.proofs.TakeWords.{manned_stays}
+use Rattle.bbq_core.proofs.Attends.{IsIdleTake, IsTakeManned, both_parts, idle_take, load_manned, opens_take, stays_take, take_part}
 
 -- what a step of this phase leaves: puts and takes have come as far as before, or have opened the next block
 pub record IsAfter (g : Grid) (p : Phase) (front back : Front) (ws' : List ℕ) (vs' : List View) : Type 0 where
@@ -50,17 +53,14 @@ module _ (g : Grid) (limits : IsWithinLimits g) (front back : Front) (ws : List 
   abbrev After : Phase → Type 0
   After p = IsAfter g p front back (words_after table g ws v p) (slice_set vs id (view_after table g ws v p))
 
-  idle_put : (p : Phase) → IsShared (stage p) → IsIdleTake back.last p
-  idle_put (Take q) h = absurd h
-  idle_put p h = record { reserved = refl; consumer = refl }
-
-  after_put : (p : Phase) → v.phase ≡ Some p → IsShared (stage p) → After p
-  after_put p e shared =
+  after_put : (q : PutPhase) → v.phase ≡ Some (Put q) → After (Put q)
+  after_put q e =
+      let p : Phase = Put q in
       let v' : View = view_after table g ws v p in
-      let n = shared_step g limits front back ws vs s id v at p e shared small in
+      let n = shared_step g limits front back ws vs s id v at q e small in
       let k = n.0 in
       let moved = n.1 in
-      let sound = keeps_put g limits front back ws vs s id v at p e shared small in
+      let sound = keeps_put g limits front back ws vs s id v at q e small in
       let c = moved.consumer in
       record {
         front' = k.to;
@@ -68,7 +68,7 @@ module _ (g : Grid) (limits : IsWithinLimits g) (front back : Front) (ws : List 
         opened = k.further;
         passed = inl refl;
         sound = sound;
-        manned = both_parts g k.to back _ _ (k.manned m.puts) (idle_take g limits front back ws vs id v v' at p e m k.to.last _ sound.takes (omega arith) (λ i. let z = moved.reserved i in omega arith) (λ i. let z = moved.consumed i in omega arith) (idle_put p shared));
+        manned = both_parts g k.to back _ _ (k.manned m.puts) (idle_take g limits front back ws vs id v v' at p e m k.to.last _ sound.takes (omega arith) (λ i. let z = moved.reserved i in omega arith) (λ i. let z = moved.consumed i in omega arith) (record { reserved = refl; consumer = refl }));
       }
 
   -- a load of the queue's own
@@ -91,15 +91,15 @@ module _ (g : Grid) (limits : IsWithinLimits g) (front back : Front) (ws : List 
   after_take q n i x e word up made sound o r =
       let v' : View = view_after table g ws v (Take q) in
       let back' : Front = record { last = back.last; next = n } in
-      let long = long_enough g front back ws vs s id v v' at q e made i x word in
-      let later = raised_later g front back ws vs s id v v' at q e made i x word long up in
+      let long = long_enough g ws i x word stage_of front vs id v v' at (ap (stage_in stage) e) s.puts in
+      let later = raised_later g back ws vs id v v' at made i x long up in
       record {
         front' = front;
         back' = back';
         opened = inl refl;
         passed = inl refl;
         sound = sound;
-        manned = both_parts g front back' _ _ (puts_manned g limits front back ws vs id v v' at q e m i x word)
+        manned = both_parts g front back' _ _ (manned_stays g ws i x word stage_of front vs id v v' at (ap (stage_in stage) e) m.puts)
             (stays_take g limits front.last back' (take_cursors g ws) (take_cursors g (slice_set ws i x)) vs id v v' at sound.takes (take_part g front back ws vs m) later.consumer later.reserved later.consumed o r);
       }
 
@@ -160,8 +160,8 @@ module _ (g : Grid) (limits : IsWithinLimits g) (front back : Front) (ws : List 
       let ws' : List ℕ = slice_set ws i x in
       let v' : View = view_after table g ws v (Take (OpenX spent)) in
       let word = consumed_at g (spent.block + 1) limits in
-      let long = long_enough g front back ws vs s id v v' at (OpenX spent) e refl i x word in
-      let later = raised_later g front back ws vs s id v v' at (OpenX spent) e refl i x word long (omega arith) in
+      let long = long_enough g ws i x word stage_of front vs id v v' at (ap (stage_in stage) e) s.puts in
+      let later = raised_later g back ws vs id v v' at refl i x long (omega arith) in
       let back' : Front = record { last = n.0; next = back.next } in
       let t = take_part g front back ws vs m in
       let o : opens_reserved back.last v.phase ≡ 0 = ap (opens_reserved back.last) e in
@@ -173,7 +173,7 @@ module _ (g : Grid) (limits : IsWithinLimits g) (front back : Front) (ws : List 
         opened = inl refl;
         passed = n.1;
         sound = n.2;
-        manned = both_parts g front back' ws' _ (puts_manned g limits front back ws vs id v v' at (OpenX spent) e m i x word)
+        manned = both_parts g front back' ws' _ (manned_stays g ws i x word stage_of front vs id v v' at (ap (stage_in stage) e) m.puts)
             (⊎_elim
             (λ z. subst (λ (k : ℕ). IsTakeManned g k (take_cursors g ws') (slice_set vs id v')) (sym z)
             (stays_take g limits front.last back (take_cursors g ws) (take_cursors g ws') vs id v v' at (subst (λ (k : ℕ). TakeWords g front.last (record { last = k; next = back.next }) (take_cursors g ws')) z takes) t later.consumer later.reserved later.consumed (inl (omega arith)) (inl (omega arith))))
@@ -184,16 +184,9 @@ module _ (g : Grid) (limits : IsWithinLimits g) (front back : Front) (ws : List 
 
   -- one law for each kind of step
   pub step_at : (p : Phase) → v.phase ≡ Some p → After p
-  step_at (HeadP turn first) e = after_put (HeadP turn first) e tt
-  step_at (SeeA turn first head) e = after_put (SeeA turn first head) e tt
-  step_at (AddA turn first head) e = after_put (AddA turn first head) e tt
-  step_at (Write c next) e = after_put (Write c next) e tt
-  step_at (Commit c) e = after_put (Commit c) e tt
+  step_at (Put q) e = after_put q e
   step_at (SeeX full) e = after_load (SeeX full) (5 + 4 * ((full.block + 1) % g.blocks)) e record { allocated = refl; producer = refl; entered = refl } record { reserved = refl; consumer = refl } (keeps_SeeX g limits front back ws vs s id v at full e)
   step_at (SeeR full x) e = after_load (SeeR full x) (4 + 4 * ((full.block + 1) % g.blocks)) e record { allocated = refl; producer = refl; entered = refl } record { reserved = refl; consumer = refl } (keeps_SeeR g limits front back ws vs s id v at full x e)
-  step_at (OpenM full) e = after_put (OpenM full) e tt
-  step_at (OpenA full) e = after_put (OpenA full) e tt
-  step_at (RaiseP full) e = after_put (RaiseP full) e tt
   step_at (Take (HeadC turn first)) e = after_load (Take (HeadC turn first)) 1 e record { allocated = refl; producer = refl; entered = refl } record { reserved = refl; consumer = refl } (keeps_HeadC g limits front back ws vs s id v at turn first e)
   step_at (Take (SeeRes turn first head)) e = after_load (Take (SeeRes turn first head)) (4 + 4 * (head % g.blocks)) e record { allocated = refl; producer = refl; entered = refl } record { reserved = refl; consumer = refl } (keeps_SeeRes g limits front back ws vs s id v at turn first head e)
   step_at (Take (SeeCom r)) e = after_load (Take (SeeCom r)) (3 + 4 * (r.block % g.blocks)) e record { allocated = refl; producer = refl; entered = refl } record { reserved = refl; consumer = refl } (keeps_SeeCom g limits front back ws vs s id v at r e)

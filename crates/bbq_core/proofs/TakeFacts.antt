@@ -14,20 +14,20 @@ use Rattle.rail.specs.declared.entry.Placed.{Placed}
 use Rattle.rail.specs.Items.{places}
 use Rattle.machine.proofs.Lists.{one_le_sum}
 use Rattle.put_side.specs.Cursors.{Front, consumed_word, place}
-use Rattle.put_side.specs.Counts.{makes, one_at, one_below, sum_below, times}
+use Rattle.put_side.specs.Counts.{makes, one_at, sum_below, times}
 use Rattle.put_side.specs.Places.{IsCurrent}
 use Rattle.put_side.proofs.Sums.{none_from, one_in, one_to, some_counts, sum_gap, times-cons, times_push, upto_misses}
 use Rattle.put_side.proofs.Facts.{IsPhysical, place_next, repacked}
-use Rattle.put_side.proofs.Frames as put_frames
 use Rattle.put_side.proofs.Items.{made_counts, one_there}
 use Rattle.put_side.proofs.Draws.{one_is}
 use Rattle.bbq_core.specs.declared.phase.Phase.{Phase}
 use Rattle.bbq_core.specs.declared.phase.Phase.TheVariants.{Take}
 use Rattle.bbq_core.specs.declared.take_phase.TakePhase.TheVariants.{Read, Consume}
+use Rattle.put_side.proofs.Moments.{made_within}
 use Rattle.bbq_core.specs.Types.{View}
-use Rattle.bbq_core.specs.Stage.{stage_of}
+use Rattle.bbq_core.specs.Stage.{stage}
 use Rattle.bbq_core.specs.Cursors.{IsHalfOpen, TakeCursors, TakeWords}
-use Rattle.bbq_core.specs.Counts.{claims, fetches, reading, takes}
+use Rattle.bbq_core.specs.Counts.{fetches, reading, takes}
 use Rattle.bbq_core.specs.Sound.{IsSoundAt, Knows, Scene, scene}
 
 -- what stands at the reserved cursor of a physical block
@@ -147,10 +147,6 @@ pub record IsUnread (g : Grid) (opened : ℕ) (ws : List ℕ) (vs : List View) (
   pub near : opened < at.block + g.blocks
 
 module _ (g : Grid) (front back : Front) (ws : List ℕ) (vs : List View) (s : IsSoundAt g front back ws vs) where
-  -- each place is made at most once, and only if it is allocated
-  pub made_once : (q : ℕ) → sum_by (makes q) vs ≤ one_below q front.next
-  made_once q = let m = sum_by-le-sum_by (makes q) (claims g q) vs (put_frames.makes_le stage_of g q) in let o = s.puts.places.counts.once q in omega arith
-
   -- each place that is reserved is made
   pub reserved_made : (p : ℕ) → p < back.next → 1 ≤ sum_by (makes p) vs
   reserved_made p l =
@@ -163,7 +159,7 @@ module _ (g : Grid) (front back : Front) (ws : List ℕ) (vs : List View) (s : I
       (λ z. let m = s.counts.taken_made p in let o = one_le_sum (takes p) vs r.0 r.1 r.2 in omega arith) (cases_lt (takes p r.1) 1)
 
   pub reserved_within : back.next ≤ front.next
-  reserved_within = ⊎_elim (λ l. let m = made_once front.next in let r = reserved_made front.next l in let z = none_from front.next front.next (omega arith) in absurd (omega arith)) (λ l. l) (cases_lt front.next back.next)
+  reserved_within = ⊎_elim (λ l. let m = made_within stage g front ws vs s.puts front.next in let r = reserved_made front.next l in let z = none_from front.next front.next (omega arith) in absurd (omega arith)) (λ l. l) (cases_lt front.next back.next)
 
   pub unread : (id : ℕ) (v : View) (at : Cursor) → slice_get vs id ≡ Some v → reading g v.phase ≡ place_at g at ∷ [] → IsCurrent g back.last at → IsUnread g front.last ws vs at
   unread id v at here reads f =

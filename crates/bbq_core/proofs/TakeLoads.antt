@@ -17,14 +17,17 @@ use Rattle.put_side.proofs.Facts.{IsPhysical, found_open, physical, repacked}
 use Rattle.bbq_core.specs.declared.phase.Phase.TheVariants.{Take}
 use Rattle.bbq_core.specs.declared.take_phase.TakePhase.{TakePhase}
 use Rattle.bbq_core.specs.declared.take_phase.TakePhase.TheVariants.{HeadC, SeeRes, SeeCom, SeeAll, Reserve, NextCom, OpenX}
+use Rattle.put_side.proofs.Moments.{made_within}
+use Rattle.bbq_core.specs.Stage.{stage}
 use Rattle.bbq_core.specs.Types.{After, View}
 use Rattle.bbq_core.specs.TakeSteps.{after_take, passed}
 use Rattle.bbq_core.specs.Table.{table}
 use Rattle.bbq_core.specs.Cursors.{take_cursors}
 use Rattle.bbq_core.specs.Counts.{reading}
 use Rattle.bbq_core.specs.Sound.{IsReserved, IsSoundAt, Knows, TakeKnows, scene}
-use Rattle.bbq_core.proofs.Loads.{IsNextOwn, answers, go_on, loads, pick_any, pick_equal, pick_less, pick_same}
-use Rattle.bbq_core.proofs.TakeFacts.{found_R, made_once, reserved_made, reserved_to}
+use Rattle.put_side.proofs.Choices.{pick_any, pick_equal, pick_less, pick_same}
+use Rattle.bbq_core.proofs.Loads.{IsNextOwn, answers, go_on, loads}
+use Rattle.bbq_core.proofs.TakeFacts.{found_R, reserved_made, reserved_to}
 
 -- the committed cursor of a block that was opened to takes
 pub record IsCommitted (g : Grid) (last : ℕ) (back : Front) (k o word : ℕ) : Type 0 where
@@ -45,7 +48,7 @@ module _ (g : Grid) (limits : IsWithinLimits g) (front back : Front) (ws : List 
       record { opened = q.0; reached = q.1; from = omega (arith, l.from); current = λ h. let y : latest g.blocks r.block front.last ≡ r.block = sym w ∙ h in omega (arith, l.near) }
 
   each_once : (k o : ℕ) → sum_by (makes (place g k o)) vs ≤ 1
-  each_once k o = let m = made_once g front back ws vs s (place g k o) in let z = one_to (place g k o) front.next in omega arith
+  each_once k o = let m = made_within stage g front ws vs s.puts (place g k o) in let z = one_to (place g k o) front.next in omega arith
 
   module _ (id : ℕ) (v : View) (at : slice_get vs id ≡ Some v) where
     abbrev Keeps : TakePhase → Type 0
@@ -140,7 +143,7 @@ module _ (g : Grid) (limits : IsWithinLimits g) (front back : Front) (ws : List 
         let c = s.puts.places.counts.made k (omega arith) near (f.0).from in
         let much : m.offset ≤ committed_word g ws k % offset_span = omega (arith, a.same, a.known) in
         let edge : front.next ≡ place g k m.offset = d.1 ∙ ap (place g front.last) o ∙ ap (λ (b : ℕ). place g b m.offset) (sym top) in
-        let zero_from : (o : ℕ) → m.offset ≤ o → F o ≡ 0 = λ o h. let y = made_once g front back ws vs s (place g k o) in let z = none_from (place g k o) front.next (omega arith) in omega arith in
+        let zero_from : (o : ℕ) → m.offset ≤ o → F o ≡ 0 = λ o h. let y = made_within stage g front ws vs s.puts (place g k o) in let z = none_from (place g k o) front.next (omega arith) in omega arith in
         let cut = upto_cut g.size m.offset F (omega (arith, a.within)) zero_from in
         let most = upto_le m.offset F (each_once k) in
         let full : sum_below m.offset F ≡ m.offset = omega arith in

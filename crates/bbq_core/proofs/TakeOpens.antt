@@ -20,19 +20,22 @@ use Rattle.put_side.specs.Places.{IsCurrent}
 use Rattle.put_side.proofs.Sums.{none_from, sum_same, upto_none, upto_same}
 use Rattle.put_side.proofs.Facts.{committed_below, physical, place_next}
 use Rattle.bbq_core.specs.declared.phase.Phase.{Phase}
-use Rattle.bbq_core.specs.declared.phase.Phase.TheVariants.{SeeR, OpenM, Take}
+use Rattle.bbq_core.specs.declared.phase.Phase.TheVariants.{Put, SeeR, Take}
+use Rattle.put_side.specs.declared.put_phase.PutPhase.TheVariants.{OpenM}
 use Rattle.bbq_core.specs.declared.take_phase.TakePhase.{TakePhase}
 use Rattle.bbq_core.specs.declared.take_phase.TakePhase.TheVariants.{Read, Consume, OpenX, OpenR}
+use Rattle.put_side.specs.PutTable.{stage_in}
+use Rattle.bbq_core.specs.Stage.{stage, stage_of}
 use Rattle.bbq_core.specs.Types.{View}
 use Rattle.bbq_core.specs.Table.{table}
 use Rattle.bbq_core.specs.Cursors.{TakeCursors, TakeWords, take_cursors}
 use Rattle.bbq_core.specs.Counts.{fetch_count, fetched, fetches, reading, reading_in, takes}
 use Rattle.bbq_core.specs.Sound.{IsSoundAt, Knows, Scene, TakeFits, TakeKnows, scene}
-use Rattle.bbq_core.proofs.Frames.{after_step, fits_later, take_cursors_are}
+use Rattle.bbq_core.proofs.Frames.{after_step, fits_later, take_cursors_are, raised_later}
 use Rattle.bbq_core.proofs.Loads.{go_on, loads}
 use Rattle.bbq_core.proofs.TakeFacts.{reserved_below, takes_le, unread}
 use Rattle.bbq_core.proofs.TakeLoads.{knows_at}
-use Rattle.bbq_core.proofs.TakeSteps.{consumed_at, long_enough, puts_stay, raised_later}
+use Rattle.put_side.proofs.TakeWords.{consumed_at, long_enough, puts_stay}
 
 -- the scene where takes have opened one block more
 abbrev one_further : Scene → Scene
@@ -52,7 +55,7 @@ take_knows_opens g s read q n f = f
 
 knows_opens : (g : Grid) (s : Scene) (made : List Placed) (read : List ℕ) (ph : Option Phase) → ReadsElsewhere g s.passed (reading g ph) → Knows g s made read ph → Knows g (one_further s) made read ph
 knows_opens g s made read (Some (SeeR full x)) n f = f
-knows_opens g s made read (Some (OpenM full)) n f = f
+knows_opens g s made read (Some (Put (OpenM full))) n f = f
 knows_opens g s made read (Some (Take q)) n f = take_knows_opens g s read q n f
 knows_opens g s made read ph n f = tt
 
@@ -104,7 +107,7 @@ module _ (g : Grid) (limits : IsWithinLimits g) (front back : Front) (ws : List 
       let new : x ≡ (last + 1) * offset_span = omega (arith, was.0, limits.size_to) in
       let m = mod_below h g.blocks (omega arith) in
       let word = consumed_at g h limits in
-      let long = long_enough g front back ws vs s id v v' at (OpenX spent) e refl i x word in
+      let long = long_enough g ws i x word stage_of front vs id v v' at (ap (stage_in stage) e) s.puts in
       let known : packed spent ≤ reserved_word g ws last = subst (λ (b : ℕ). packed spent ≤ reserved_word g ws b) newest f.0.known in
       let z = place_next g last w.from in
       let full = f.0.full in
@@ -113,7 +116,7 @@ module _ (g : Grid) (limits : IsWithinLimits g) (front back : Front) (ws : List 
       let there : consumed_word g ws' (last + 1) ≡ x = ap (λ (r : ℕ). slice_index ws' (5 + 4 * r)) (sym here) ∙ get_or-set_same ws i x 0 long in
       let other : (k : ℕ) → k ≤ last → last + 1 < k + g.blocks → consumed_word g ws' k ≡ consumed_word g ws k = λ k l n. get_or-set_other ws i _ x 0
       (λ r. let q : k % g.blocks ≡ h % g.blocks = omega arith in let z = same_near g.blocks k (last + 1) (last + 1) (q ∙ here) (omega arith) n (omega arith) (omega arith) in omega arith) in
-      let later = raised_later g front back ws vs s id v v' at (OpenX spent) e refl i x word long (omega arith) in
+      let later = raised_later g back ws vs id v v' at refl i x long (omega arith) in
       let made = later.made in
       let old_R = w.passed j (omega arith) (omega arith) in
       let at_R : reserved_word g ws j ≡ reserved_word g ws (last + 1) = physical g ws 4 j (last + 1) turn in
@@ -144,7 +147,7 @@ module _ (g : Grid) (limits : IsWithinLimits g) (front back : Front) (ws : List 
         unread = y.unread;
       } in
       after_step g front front back ws ws' vs id v v' s at further
-      (puts_stay g front back ws vs s id v v' at (OpenX spent) e refl i x word refl refl)
+      (puts_stay g ws i x word stage_of front vs id v v' at (ap (stage_in stage) e) s.puts record { made = refl; entry = refl; stands = refl })
       (subst (TakeWords g front.last further) (take_cursors_are g ws' c' (get_or-set_other ws i 1 x 0 (λ r. omega arith)) (λ k. get_or-set_other ws i _ x 0 (λ r. omega arith)) (λ k. refl)) takes')
       record {
         read_once = λ p. sum_same (fetches g p) vs id v v' at (ap (times p) fetch) ∙ n.read_once p;

@@ -15,16 +15,18 @@ use Rattle.put_side.specs.Cursors.{Front, consumed_word, place, reserved_word}
 use Rattle.put_side.proofs.Facts.{physical}
 use Rattle.bbq_core.specs.declared.phase.Phase.TheVariants.{Take}
 use Rattle.bbq_core.specs.declared.take_phase.TakePhase.TheVariants.{OpenR, RaiseC}
+use Rattle.put_side.specs.PutTable.{stage_in}
+use Rattle.bbq_core.specs.Stage.{stage, stage_of}
 use Rattle.bbq_core.specs.Types.{View}
 use Rattle.bbq_core.specs.Table.{table}
 use Rattle.bbq_core.specs.Cursors.{IsHalfOpen, IsOpen, TakeCursors, TakeWords, take_cursors}
 use Rattle.bbq_core.specs.Counts.{reading}
 use Rattle.bbq_core.specs.Sound.{IsSoundAt}
-use Rattle.bbq_core.proofs.Frames.{quiet, take_cursors_are}
+use Rattle.bbq_core.proofs.Frames.{quiet, take_cursors_are, raised_later}
 use Rattle.bbq_core.proofs.Loads.{go_on, loads}
 use Rattle.bbq_core.proofs.TakeFacts.{consumed_below, lags_R, reserved_below}
 use Rattle.bbq_core.proofs.TakeLoads.{knows_at}
-use Rattle.bbq_core.proofs.TakeSteps.{head_at, long_enough, puts_stay, raised_later, reserved_at}
+use Rattle.put_side.proofs.TakeWords.{head_at, long_enough, puts_stay, reserved_at}
 
 module _ (g : Grid) (limits : IsWithinLimits g) (front back : Front) (ws : List ℕ) (vs : List View) (s : IsSoundAt g front back ws vs) (id : ℕ) (v : View) (at : slice_get vs id ≡ Some v) (spent : Cursor) where
   -- the consumer head is raised
@@ -40,7 +42,7 @@ module _ (g : Grid) (limits : IsWithinLimits g) (front back : Front) (ws : List 
       let le : spent.block + 1 ≤ back.last = omega (arith, f.1) in
       let w = s.takes in
       let word = head_at g limits in
-      let long = long_enough g front back ws vs s id v v' at (RaiseC spent) e refl 1 x word in
+      let long = long_enough g ws 1 x word stage_of front vs id v v' at (ap (stage_in stage) e) s.puts in
       let top : IsOpen g back (c.reserved back.last) ⊎ IsHalfOpen g back x (c.reserved back.last) = ⊎_elim (λ q. inl q) (λ q. inr record {
         older = q.older;
         spent = q.spent;
@@ -51,9 +53,9 @@ module _ (g : Grid) (limits : IsWithinLimits g) (front back : Front) (ws : List 
       record { from = w.from; behind = w.behind; near = w.near; head_from = omega (arith, w.head_from); head_to = omega (arith, w.head_to); consumed = w.consumed; reused = w.reused; passed = w.passed; newest = top } in
       let is : slice_index ws' 1 ≡ x = get_or-set_same ws 1 x 0 long in
       let own = s.each id v at in
-      quiet g front front back ws ws' vs id v v' s at (raised_later g front back ws vs s id v v' at (RaiseC spent) e refl 1 x word long (omega arith)) (λ k. other _ (λ q. omega arith))
+      quiet g front front back ws ws' vs id v v' s at (raised_later g back ws vs id v v' at refl 1 x long (omega arith)) (λ k. other _ (λ q. omega arith))
       (ap (λ (l : List ℕ). places v.taken ++ l) (sym (ap (reading g) e))) refl
-      (puts_stay g front back ws vs s id v v' at (RaiseC spent) e refl 1 x word refl refl)
+      (puts_stay g ws 1 x word stage_of front vs id v v' at (ap (stage_in stage) e) s.puts record { made = refl; entry = refl; stands = refl })
       (subst (TakeWords g front.last back) (take_cursors_are g ws' record { consumer = x; reserved = c.reserved; consumed = c.consumed } is (λ k. other _ (λ q. omega arith)) (λ k. other _ (λ q. omega arith))) takes)
       (inr record { is = refl; from = f.0.from; full = f.0.full; below = omega arith })
       (λ q h n. own.unread (RaiseC spent) e refl)
@@ -73,7 +75,7 @@ module _ (g : Grid) (limits : IsWithinLimits g) (front back : Front) (ws : List 
       let le : h ≤ back.last = omega (arith, f.1) in
       let m = mod_below h g.blocks (omega (arith, limits.blocks_from)) in
       let word = reserved_at g h limits in
-      let long = long_enough g front back ws vs s id v v' at (OpenR spent) e refl i x word in
+      let long = long_enough g ws i x word stage_of front vs id v v' at (ap (stage_in stage) e) s.puts in
       let w = s.takes in
       let own = s.each id v at in
       ⊎_elim
@@ -82,7 +84,7 @@ module _ (g : Grid) (limits : IsWithinLimits g) (front back : Front) (ws : List 
       let is : (k : ℕ) → k % g.blocks ≡ h % g.blocks → reserved_word g ws' k ≡ h * offset_span = λ k q. let z = ap (λ (r : ℕ). slice_index ws' (4 + 4 * r)) q ∙ get_or-set_same ws i x 0 long in omega arith in
       let other : (k : ℕ) → k % g.blocks ≢ h % g.blocks → reserved_word g ws' k ≡ reserved_word g ws k = λ k q. get_or-set_other ws i _ x 0 (λ r. q (omega arith)) in
       let top = is back.last (ap (λ (b : ℕ). b % g.blocks) (sym lag.0)) in
-      let later = raised_later g front back ws vs s id v v' at (OpenR spent) e refl i x word long (omega arith) in
+      let later = raised_later g back ws vs id v v' at refl i x long (omega arith) in
       let takes : TakeWords g front.last back record { consumer = c.consumer; reserved = reserved_word g ws'; consumed = c.consumed } = record {
         from = w.from;
         behind = w.behind;
@@ -96,7 +98,7 @@ module _ (g : Grid) (limits : IsWithinLimits g) (front back : Front) (ws : List 
       } in
       let sx : (k : ℕ) → consumed_word g ws' k ≡ consumed_word g ws k = λ k. get_or-set_other ws i _ x 0 (λ r. omega arith) in
       quiet g front front back ws ws' vs id v v' s at later sx (ap (λ (l : List ℕ). places v.taken ++ l) (sym (ap (reading g) e))) refl
-      (puts_stay g front back ws vs s id v v' at (OpenR spent) e refl i x word refl refl)
+      (puts_stay g ws i x word stage_of front vs id v v' at (ap (stage_in stage) e) s.puts record { made = refl; entry = refl; stands = refl })
       (subst (TakeWords g front.last back) (take_cursors_are g ws' record { consumer = c.consumer; reserved = reserved_word g ws'; consumed = c.consumed } (get_or-set_other ws i 1 x 0 (λ r. omega arith)) (λ k. refl) sx) takes)
       (record { from = f.0.from; full = f.0.full; known = let z = later.reserved spent.block in omega (arith, f.0.known) }, let z = is h refl in omega arith)
       (λ q h n. own.unread (OpenR spent) e refl))

@@ -1,33 +1,33 @@
 -- What the steps of a call show of its answer.
-use Rattle.std.specs.Prelude.{◌≡◌, ◌≢◌, ℕ, suc, ◌+◌, ◌-◌, ◌<◌, List, Some, length, slice_get}
+use Rattle.std.specs.Prelude.{◌≡◌, ◌≢◌, ℕ, suc, ◌+◌, ◌-◌, ◌<◌, List, length}
 use Rattle.cursor_word.specs.Shape.{Grid}
 use Rattle.cursor_word.specs.Cursor.{IsBefore, first_of, place_at, unpacked}
 use Rattle.cursor_word.specs.declared.cursor.Cursor.{Cursor}
 use Rattle.rail.specs.declared.answer.Why.{Why}
 use Rattle.rail.specs.declared.answer.Why.TheVariants as why
 use Rattle.bbq_core.specs.declared.phase.Phase.{Phase}
-use Rattle.bbq_core.specs.declared.phase.Phase.TheVariants.{SeeA, AddA, SeeX, SeeR, Take}
+use Rattle.bbq_core.specs.declared.phase.Phase.TheVariants.{SeeX, SeeR, Take}
 use Rattle.bbq_core.specs.declared.take_phase.TakePhase.TheVariants.{SeeRes, SeeCom, SeeAll, Reserve, NextCom}
 use Rattle.machine.specs.declared.event.Event.{Event}
 use Rattle.bbq_core.specs.Moments.{EmptyAt, FullAt}
 use Rattle.machine.specs.Moments.{moment}
+use Rattle.put_side.specs.Causes as causes
+use Rattle.bbq_core.specs.Stage.{stage}
 use Rattle.bbq_core.specs.Table.{table}
 use Rattle.bbq_core.specs.Types.{CallStep}
 
+-- each step shows the cursor of the word that it found
+abbrev pub shown : Phase → ℕ → Cursor
+shown phase word = unpacked word
+
 -- a step of this kind found this cursor
-pub record FoundBy (Is : Phase → Type 0) (c : Cursor) (steps : List CallStep) : Type 0 where
-  pub number : ℕ
-  pub step : CallStep
-  pub at : slice_get steps number ≡ Some step
-  pub kind : Is step.phase
-  pub found : unpacked step.found ≡ c
+abbrev pub FoundBy : (Phase → Type 0) → Cursor → List CallStep → Type 0
+FoundBy Is cursor steps = causes.FoundBy shown Is cursor steps
 
 -- a step of this turn that finds the allocated cursor of the head's block, and one that finds its
 -- reserved cursor
 abbrev pub FindsAllocated : ℕ → Phase → Type 0
-FindsAllocated turn (SeeA t first head) = t ≡ turn
-FindsAllocated turn (AddA t first head) = t ≡ turn
-FindsAllocated turn p = ⊥
+FindsAllocated turn p = causes.FindsAllocated turn (stage p)
 
 abbrev pub FindsReserved : ℕ → Phase → Type 0
 FindsReserved turn (Take (SeeRes t first head)) = t ≡ turn
@@ -73,15 +73,6 @@ pub record EmptyShown (shape : Grid) (events : List Event) (steps : List CallSte
   pub is_last : suc last.number ≡ length steps
   pub was_empty : EmptyAt shape (moment table shape events last.step.position) place
 
--- the two cursors of a Busy answer, in the order in which they were found
-abbrev pub first_found : Why → Cursor
-first_found (why.Unfinished block before after) = before
-first_found (why.Moved earlier later) = earlier
-
-abbrev pub second_found : Why → Cursor
-second_found (why.Unfinished block before after) = after
-second_found (why.Moved earlier later) = later
-
 -- the step p that finds the first cursor of a put's Busy answer, and the step q that finds the
 -- second:
 -- the consumed cursor in the place of the next block and then the reserved one there, or the
@@ -116,10 +107,5 @@ Differ (why.Moved earlier later) q = earlier.block < later.block
 
 -- a call that answers Busy found the second cursor in its last step, and the first in an earlier
 -- one
-pub record BusyShown (Pair : Phase → Phase → Type 0) (steps : List CallStep)
-    (reason : Why) : Type 0 where
-  pub earlier : FoundBy (λ p. Unit {0}) (first_found reason) steps
-  pub later : FoundBy (λ q. Pair earlier.step.phase q) (second_found reason) steps
-  pub in_order : earlier.number < later.number
-  pub is_last : suc later.number ≡ length steps
-  pub differ : Differ reason later.step.phase
+abbrev pub BusyShown : (Phase → Phase → Type 0) → List CallStep → Why → Type 0
+BusyShown Pair steps reason = causes.BusyShown shown Pair Differ steps reason

@@ -13,11 +13,12 @@ use Rattle.put_side.specs.Entries.{IsMade}
 use Rattle.put_side.specs.PutSide.{PutSide}
 use Rattle.put_side.specs.Manned as puts
 use Rattle.bbq_core.specs.declared.phase.Phase.{Phase}
-use Rattle.bbq_core.specs.declared.phase.Phase.TheVariants.{SeeR, OpenM, Take}
+use Rattle.bbq_core.specs.declared.phase.Phase.TheVariants.{Put, SeeR, Take}
+use Rattle.put_side.specs.declared.put_phase.PutPhase.TheVariants.{OpenM}
+use Rattle.put_side.specs.PutSteps.{older_full}
 use Rattle.bbq_core.specs.declared.take_phase.TakePhase.{TakePhase}
 use Rattle.bbq_core.specs.declared.take_phase.TakePhase.TheVariants.{HeadC, SeeRes, SeeCom, SeeAll, Reserve, Read, Consume, NextCom, OpenX, OpenR, RaiseC}
 use Rattle.bbq_core.specs.Types.{View}
-use Rattle.bbq_core.specs.PutSteps.{older_consumed}
 use Rattle.bbq_core.specs.Stage.{stage_of}
 use Rattle.bbq_core.specs.Cursors.{TakeCursors, TakeWords, take_cursors}
 use Rattle.bbq_core.specs.Counts.{TakeCounts, fetched, reading_in}
@@ -111,10 +112,10 @@ TakeKnows shape s read (RaiseC spent) =
 -- made lies up to the filled one.
 abbrev pub Knows : Grid → Scene → List Placed → List ℕ → Option Phase → Type 0
 Knows shape s made read (Some (SeeR full x)) =
-    (packed x < older_consumed shape full.block)
+    (packed x < older_full shape full.block)
     × AllByRecursion (λ q. q < place shape (full.block + 1) 0) (places made)
-Knows shape s made read (Some (OpenM full)) =
-    older_consumed shape full.block ≤ s.cursors.consumed (full.block + 1)
+Knows shape s made read (Some (Put (OpenM full))) =
+    older_full shape full.block ≤ s.cursors.consumed (full.block + 1)
 Knows shape s made read (Some (Take q)) = TakeKnows shape s read q
 Knows shape s made read phase = Unit {0}
 

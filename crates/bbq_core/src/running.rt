@@ -3,7 +3,7 @@ ghost use Rattle.std.specs.Prelude.{false};
 
 use crate::phase::Phase;
 use crate::take_phase::TakePhase;
-use call_laws::{CallPhase, SharedPhase};
+use call_laws::CallPhase;
 
 impl CallPhase for Phase {
     ghost drops = { false };
@@ -11,10 +11,7 @@ impl CallPhase for Phase {
     #[inline(always)]
     fn usual_step(&self) -> u64 {
         match *self {
-            Phase::HeadP { .. } => 0,
-            Phase::SeeA { .. } => 1,
-            Phase::AddA { .. } => 2,
-            Phase::Write { .. } => 3,
+            Phase::Put(put) => put.usual_step(),
             Phase::Take(TakePhase::HeadC { .. }) => 0,
             Phase::Take(TakePhase::SeeRes { .. }) => 1,
             Phase::Take(TakePhase::SeeCom { .. }) => 2,
@@ -26,8 +23,4 @@ impl CallPhase for Phase {
     }
 
     fn calls() {}
-}
-
-impl SharedPhase for Phase {
-    fn seats() {}
 }

@@ -9,8 +9,8 @@ use Rattle.cursor_word.proofs.Blocks.{latest, latest_is}
 use Rattle.rail.specs.Items.{places}
 use Rattle.machine.proofs.Lists.{one_le_sum}
 use Rattle.put_side.specs.Cursors.{Front, allocated_word, committed_word, place, put_cursors}
-use Rattle.put_side.specs.Stages.{PutStage, held}
-use Rattle.put_side.specs.Stages.{Write, Commit}
+use Rattle.put_side.specs.declared.put_phase.PutPhase.TheVariants.{Write, Commit}
+use Rattle.put_side.specs.Stages.{PutStage, At, held}
 use Rattle.put_side.specs.Counts.{claims, makes, one_at, times}
 use Rattle.put_side.specs.Places.{PutKnows}
 use Rattle.put_side.specs.PutTable.{stage_of}
@@ -20,14 +20,14 @@ use Rattle.put_side.proofs.Commits.{made_once, one_apart}
 use Rattle.drop_core.specs.Types.{View}
 use Rattle.drop_core.specs.Stage.{stage}
 use Rattle.drop_core.specs.Sound.{IsSoundAt}
-use Rattle.drop_core.proofs.Frames.{rows}
+use Rattle.put_side.proofs.Lows.{rows}
 
 -- a place of a block so far back is held by no put
 held_far : (g : Grid) (f : Front) (ws : List ℕ) (k o : ℕ) → g.blocks ≤ k → k + g.blocks ≤ f.last → o < g.size → (s : PutStage) → PutKnows g f.last (put_cursors g ws) s → times (place g k o) (held g s) ≡ 0
-held_far g f ws k o from far within (Write at next) h =
+held_far g f ws k o from far within (At (Write at next)) h =
     let c = h.0 in let r = rows g (k + 1) at.block (omega (arith, c.near)) in let n = place_next g k from in
     let t = times-cons (place g k o) (place_at g at) [] in let z = one_apart (place_at g at) (place g k o) (λ e. omega arith) in omega arith
-held_far g f ws k o from far within (Commit at) h =
+held_far g f ws k o from far within (At (Commit at)) h =
     let r = rows g (k + 1) at.block (omega (arith, h.near)) in let n = place_next g k from in
     let t = times-cons (place g k o) (place_at g at) [] in let z = one_apart (place_at g at) (place g k o) (λ e. omega arith) in omega arith
 held_far g f ws k o from far within s h = refl

@@ -7,15 +7,14 @@ use Rattle.cursor_word.specs.Shape.{Grid, IsWithinLimits}
 use Rattle.cursor_word.specs.Cursor.{most_block}
 use Rattle.machine.specs.Steps.{words_after}
 use Rattle.put_side.specs.Cursors.{Front, put_cursors}
-use Rattle.put_side.specs.Stages as place
-use Rattle.put_side.specs.Stages.{PutStage}
+use Rattle.put_side.specs.Stages.{PutStage, At}
 use Rattle.put_side.specs.PutTable.{IsShared, stage_of}
 use Rattle.put_side.proofs.Frames.{IsGrown, grown_same}
 use Rattle.put_side.proofs.Moves.{after_op, moves_by}
 use Rattle.put_side.proofs.Raises.{raised_to}
 use Rattle.put_side.specs.Stages.{put_want}
 use Rattle.drop_core.specs.declared.phase.DropPhase.{DropPhase}
-use Rattle.drop_core.specs.declared.phase.DropPhase.TheVariants.{HeadP, SeeA, AddA, Write, Commit, SeeM, OpenM, OpenA, RaiseP, Take}
+use Rattle.drop_core.specs.declared.phase.DropPhase.TheVariants.{Put, SeeM, Take}
 use Rattle.drop_core.specs.declared.take_phase.DropTake.{DropTake}
 use Rattle.drop_core.specs.declared.take_phase.DropTake.TheVariants.{HeadC, SeeRes, SeeCom, SeeAll, Reserve, Read, Verify, NextCom, Jump, OpenR, RaiseC}
 use Rattle.drop_core.specs.Types.{View}
@@ -50,13 +49,6 @@ module _ (g : Grid) (f : Front) (ws : List ℕ) (vs : List View) (limits : IsWit
   takes_move (RaiseC from to) = let n = s.puts.all in raises 1 _ (omega arith) (omega arith)
 
   pub grows : (p : DropPhase) → IsUp (words_after table g ws v p)
-  grows (HeadP turn first) = puts_move (place.HeadP turn first) tt
-  grows (SeeA turn first head) = puts_move (place.SeeA turn first head) tt
-  grows (AddA turn first head) = puts_move (place.AddA turn first head) tt
-  grows (Write at next) = puts_move (place.Write at next) tt
-  grows (Commit at) = puts_move (place.Commit at) tt
+  grows (Put q) = puts_move (At q) tt
   grows (SeeM full) = loads _
-  grows (OpenM full) = puts_move (place.OpenM full) tt
-  grows (OpenA full) = puts_move (place.OpenA full) tt
-  grows (RaiseP full) = puts_move (place.RaiseP full) tt
   grows (Take q) = takes_move q

@@ -21,9 +21,11 @@ use Rattle.put_side.proofs.Sums.{by_test, get_push}
 use Rattle.drop_core.specs.Types.{View}
 use Rattle.drop_core.specs.Stage.{stage}
 use Rattle.drop_core.specs.Sound.{IsSoundAt}
-use Rattle.drop_core.proofs.Frames.{rows}
-use Rattle.drop_core.proofs.Loads.{by_equal, committed_from}
-use Rattle.drop_core.proofs.Verifies.{made_below, made_words_at, overrun}
+use Rattle.put_side.proofs.Lows.{rows}
+use Rattle.put_side.proofs.Choices.{by_equal}
+use Rattle.drop_core.proofs.Loads.{committed_from}
+use Rattle.put_side.proofs.Moments.{made_words_at}
+use Rattle.drop_core.proofs.Verifies.{made_below, overrun}
 use Rattle.block_looks.specs.declared.look.Look.TheVariants as look
 use Rattle.block_looks.specs.declared.look.Seen.TheVariants as seen
 use Rattle.block_looks.specs.declared.look.LookPhase.{LookPhase}
@@ -149,7 +151,7 @@ module _ (g : Grid) (f : Front) (ws : List ℕ) (vs : List View) (limits : IsWit
       let r = reads at next may in
       let of = r.0 in
       let read : List ℕ = take next looks.look_trail in
-      let has = made_words_at g f ws vs limits s at of.words of.from of.within of.made in
+      let has = made_words_at stage g f ws vs s.puts at of.words of.from of.within of.made in
       let more : IsPresent (allocated_word g ws) at.block → read ++ n ∷ [] ≡ take (next + 1) of.words = λ z.
       let short : next < length of.words = omega (arith, r.1, has.1) in
       ap (λ (l : List ℕ). l ++ n ∷ []) (of.front z) ∙ ap (λ (y : ℕ). take next of.words ++ y ∷ []) (has.0 z next r.1) ∙ sym (take_more of.words next 0 short) in
@@ -172,7 +174,7 @@ module _ (g : Grid) (f : Front) (ws : List ℕ) (vs : List View) (limits : IsWit
       let of : IsReading g (put_cursors g ws) vs at g.width looks.look_trail = subst (LookKnows g (put_cursors g ws) vs looks.look_trail) e h.knows in
       let read : List ℕ = take g.width looks.look_trail in
       let all_read : read ≡ looks.look_trail = take_all g.width looks.look_trail (let l = of.long in omega arith) in
-      let has = made_words_at g f ws vs limits s at of.words of.from of.within of.made in
+      let has = made_words_at stage g f ws vs s.puts at of.words of.from of.within of.made in
       by_equal (n / offset_span) at.block (λ b. Steps (Check at) n (if b then after.Entry seen.Whole else after.Entry (seen.Reused (unpacked n))))
       (λ same. let present : IsPresent (allocated_word g ws) at.block = omega arith in
       let whole : of.words ≡ read = sym (all_read ∙ of.front present ∙ take_all g.width of.words (omega (arith, has.1))) in

@@ -17,7 +17,7 @@ use Rattle.put_side.proofs.Sums.{none_from, upto_all, upto_cut, upto_le}
 use Rattle.drop_core.specs.Types.{View}
 use Rattle.drop_core.specs.Stage.{stage}
 use Rattle.drop_core.specs.Sound.{IsSoundAt}
-use Rattle.drop_core.proofs.Loads.{by_equal}
+use Rattle.put_side.proofs.Choices.{by_equal}
 use Rattle.block_looks.specs.declared.look.Look.{Look}
 use Rattle.block_looks.specs.declared.look.Look.TheVariants as look
 use Rattle.block_looks.specs.Table.{look_of}

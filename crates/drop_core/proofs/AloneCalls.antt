@@ -1,40 +1,78 @@
--- A call that is done alone, from its beginning to its answer.
-use Rattle.std.proofs.Common.{◌≡◌, ℕ, ◌+◌, List, length, refl, sym, ap, ◌∙◌, inl, ⊎_elim, arith, ◌≤◌}
-use Rattle.std.specs.Prelude.{Some, None, slice_get, slice_set}
+-- A call that is done alone: each of its steps, from its beginning to its answer.
+use Rattle.std.specs.Prelude.{slice_index, if◌then◌else◌, Some, None, slice_get, slice_set}
+use Rattle.std.proofs.Common.{◌≡◌, ℕ, ◌+◌, ◌-◌, ◌*◌, ◌%◌, List, refl, ap, ◌∙◌, arith, length, sym, inl, ⊎_elim, ◌≤◌}
 use Rattle.std.proofs.lemmas.List.{length-append}
 use Rattle.cursor_word.specs.Shape.{Grid, IsWithinLimits}
-use Rattle.cursor_word.specs.Cursor.{place_span}
+use Rattle.cursor_word.specs.Cursor.{unpacked, place_span}
+use Rattle.cursor_word.specs.declared.cursor.Cursor.{Cursor}
+use Rattle.cursor_word.proofs.Blocks.{shifted}
 use Rattle.rail.specs.declared.answer.Answer.{Answer}
-use Rattle.rail.specs.declared.answer.Answer.TheVariants as answer
-use Rattle.rail.specs.declared.answer.Put.TheVariants as put
 use Rattle.rail.specs.declared.entry.Placed.{Placed}
 use Rattle.rail.specs.Items.{places}
-use Rattle.machine.specs.declared.event.Start.TheVariants as start
+use Rattle.rail.specs.declared.answer.Answer.TheVariants as answer
+use Rattle.rail.specs.declared.answer.Put.TheVariants as put
+use Rattle.rail.specs.declared.answer.Why.TheVariants as why
 use Rattle.machine.specs.declared.op.After.TheVariants.{Next, Done}
+use Rattle.machine.specs.Steps.{words_after, begun, finds, made_after, phase_after, view_after}
 use Rattle.machine.specs.Invariant.{made_count, made_total}
-use Rattle.machine.specs.Steps.{begun, finds, made_after, phase_after, view_after, words_after}
-use Rattle.machine.proofs.Lists.{get_set, get_set_other, sum_set}
+use Rattle.machine.specs.declared.event.Start.TheVariants as start
+use Rattle.machine.proofs.Lists.{get_set, get_set_other}
+use Rattle.put_side.specs.Cursors.{committed_word, Front}
+use Rattle.put_side.specs.PutSteps.{older_full}
+use Rattle.put_side.specs.declared.put_phase.PutPhase.TheVariants.{OpenM}
 use Rattle.put_side.specs.Counts.{times}
-use Rattle.put_side.proofs.Sums.{sum_same}
+use Rattle.put_side.proofs.Facts.{physical}
+use Rattle.put_side.proofs.Sums.{by_test_le, sum_same}
+use Rattle.put_side.proofs.AlonePuts.{head_of, made_of, open_of, put_goes_on}
+use Rattle.put_side.proofs.Lone.{others_still, total_grows}
 use Rattle.drop_core.specs.declared.phase.DropPhase.{DropPhase}
-use Rattle.drop_core.specs.Types.{After, View}
+use Rattle.drop_core.specs.declared.phase.DropPhase.TheVariants.{Put, SeeM, Take}
+use Rattle.drop_core.specs.Types.{View, After}
+use Rattle.drop_core.specs.Steps.{table}
+use Rattle.drop_core.specs.Stage.{stage}
 use Rattle.drop_core.specs.PutSteps.{after, first_put}
 use Rattle.drop_core.specs.TakeSteps.{first_take}
-use Rattle.drop_core.specs.Steps.{table}
 use Rattle.drop_core.specs.Words.{cursors}
 use Rattle.drop_core.specs.Counts.{takes}
 use Rattle.drop_core.specs.Sound.{IsSound}
-use Rattle.drop_core.specs.Alone.{GoesOnAlone, IsAlone, IsNext, IsStill, KnowsAlone, OthersRest, accepts}
+use Rattle.drop_core.specs.Alone.{GoesOnAlone, IsAlone, IsNext, IsStill, KnowsAlone, accepts}
+use Rattle.drop_core.proofs.Lone.{IsHere, Leads, StepLeads, full_is, loaded, put_here}
+use Rattle.drop_core.proofs.AloneTakes.{take_leads}
 use Rattle.drop_core.proofs.Keeping.{keeps}
 use Rattle.drop_core.proofs.History.{next_by, next_step}
-use Rattle.drop_core.proofs.LoneSteps.{Leads}
-use Rattle.drop_core.proofs.AlonePuts.{step_leads}
 
-others_still : (vs : List View) (id : ℕ) (v' : View) → OthersRest vs id → OthersRest (slice_set vs id v') id
-others_still vs id v' rest j u d e = rest j u d (sym (get_set_other vs id j v' d) ∙ e)
+module _ (g : Grid) (n next : ℕ) (f : Front) (ws : List ℕ) (vs : List View) (id : ℕ) (v : View) where
+  abbrev Here : DropPhase → Type 0
+  Here p = IsHere g n next f ws vs id v p
 
-total_grows : (vs : List View) (id more n : ℕ) (v v' : View) → slice_get vs id ≡ Some v → made_count v' ≡ made_count v + more → made_total vs ≡ n → made_total (slice_set vs id v') ≡ n + more
-total_grows vs id more n v v' at e total = let z = sum_set made_count vs id v v' at in omega arith
+  abbrev Goes : DropPhase → Type 0
+  Goes p = StepLeads g n next ws v p
+
+  -- the block in whose place the next one will stand is wholly committed
+  lone_SeeM : (full : Cursor) → Here (SeeM full) → Goes (SeeM full)
+  lone_SeeM full h =
+      let i : ℕ = 3 + 4 * ((full.block + 1) % g.blocks) in
+      let w : ℕ = slice_index ws i in
+      let s = h.sound in
+      let top = head_of (put_here h) refl in
+      let is : full.block ≡ f.last = h.knows ∙ top in
+      let j : ℕ = full.block + 1 - g.blocks in
+      let two = h.limits.blocks_from in
+      let from = s.puts.places.words.from in
+      let near : j + g.blocks ≡ full.block + 1 = omega arith in
+      let there : committed_word g ws j ≡ w = physical g ws 3 j (full.block + 1) (shifted g.blocks j (full.block + 1) near) in
+      let block = s.puts.places.words.committed j (omega arith) (omega arith) in
+      let whole = full_is g f ws vs h.limits s (open_of (put_here h) refl) (made_of (put_here h) refl) j (omega arith) (omega arith) in
+      loaded g n next ws i _
+      (by_test_le (older_full g full.block) w (λ t. Leads g n next ws (if t then Next (Put (OpenM full)) else Done (answer.Put (put.Busy (why.Unfinished j full (unpacked w))))))
+      (λ l. h.knows)
+      (λ l. absurd (omega arith)))
+
+  -- each step of a seat alone
+  pub step_leads : (p : DropPhase) → Here p → Goes p
+  step_leads (Put q) h = put_goes_on stage Put SeeM g n f ws vs id v q (Leads g n next (words_after table g ws v (Put q))) (put_here h) (record { next = λ r knows. knows; fills = λ full knows. knows; ok = λ at current is. ap put.Ok is })
+  step_leads (SeeM full) h = lone_SeeM full h
+  step_leads (Take q) h = take_leads g n next f ws vs id v q h
 
 accepts_more : (made : List Placed) (entry : List ℕ) (a : Answer) → length (made_after {P = DropPhase} made entry (Done a)) ≡ length made + accepts a
 accepts_more made entry (answer.Put (put.Ok place)) = length-append made _
@@ -59,7 +97,7 @@ module _ (g : Grid) (n next : ℕ) (ws : List ℕ) (vs : List View) (id : ℕ) (
   goes_by (Next q) is leads answered = record {
     sound = sound';
     others = others_still vs id v' alone.others;
-    made = total_grows vs id 0 n v v' at (let z = ap (λ (b : After). length (made_after v.made v.entry b)) is in omega arith) alone.made ∙ omega arith;
+    made = total_grows made_count vs id 0 n v v' at (let z = ap (λ (b : After). length (made_after v.made v.entry b)) is in omega arith) alone.made ∙ omega arith;
     answered = answered;
     knows = leads;
   }
@@ -68,7 +106,7 @@ module _ (g : Grid) (n next : ℕ) (ws : List ℕ) (vs : List View) (id : ℕ) (
     record {
       sound = sound';
       rest = λ j u h. ⊎_elim (λ q. sym (ap (λ (x : View). x.phase) q.1) ∙ ap phase_after is) (λ q. alone.others j u q.0 q.1) (get_set vs id j v' u h);
-      made = total_grows vs id (accepts a) n v v' at (ap (λ (b : After). length (made_after v.made v.entry b)) is ∙ accepts_more v.made v.entry a) alone.made;
+      made = total_grows made_count vs id (accepts a) n v v' at (ap (λ (b : After). length (made_after v.made v.entry b)) is ∙ accepts_more v.made v.entry a) alone.made;
       answered = answered;
     },
   )

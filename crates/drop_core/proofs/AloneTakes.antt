@@ -17,11 +17,13 @@ use Rattle.drop_core.specs.declared.take_phase.DropTake.{DropTake}
 use Rattle.drop_core.specs.declared.take_phase.DropTake.TheVariants.{HeadC, SeeRes, SeeCom, SeeAll, Reserve, Read, Verify, NextCom, Jump, OpenR, RaiseC}
 use Rattle.drop_core.specs.Types.{View}
 use Rattle.drop_core.specs.TakeSteps.{live_block}
-use Rattle.drop_core.proofs.Loads.{committed_from, knows_take, pick_equal, pick_less}
-use Rattle.drop_core.proofs.Lone.{empty_is, full_is, last_is, live_is, next_at, ok_is}
-use Rattle.drop_core.proofs.LoneSteps.{IsHere, Leads, StepLeads, accepted_of, calm_of, head_of, loaded, made_of, open_of}
-use Rattle.drop_core.proofs.Outcomes.{pick_same}
-use Rattle.drop_core.proofs.TakeFrames.{raised}
+use Rattle.put_side.proofs.AlonePuts.{accepted_of, head_of, made_of, open_of}
+use Rattle.put_side.proofs.Choices.{pick_equal, pick_less, pick_same}
+use Rattle.put_side.proofs.Lone.{next_at}
+use Rattle.drop_core.specs.Stage.{stage}
+use Rattle.drop_core.proofs.Loads.{committed_from, knows_take}
+use Rattle.drop_core.proofs.Lone.{IsHere, Leads, StepLeads, calm_of, empty_is, full_is, last_is, live_is, loaded, ok_is, put_here}
+use Rattle.drop_core.proofs.Frames.{raised}
 use Rattle.put_side.proofs.Items.{made_counts}
 use Rattle.drop_core.proofs.Verifies.{head_opened}
 
@@ -66,7 +68,7 @@ module _ (g : Grid) (n next : ℕ) (f : Front) (ws : List ℕ) (vs : List View) 
       let mark = committed_from g f ws vs h.limits s id v h.at r.block (omega (arith, k.0)) in
       let block = calm.consumer in
       let producer = calm.producer in
-      let all = accepted_of h refl in
+      let all = accepted_of (put_here h) refl in
       let within = found.within in
       let small = h.limits.size_to in
       let two = h.limits.blocks_from in
@@ -80,7 +82,7 @@ module _ (g : Grid) (n next : ℕ) (f : Front) (ws : List ℕ) (vs : List View) 
       let last : r.block ≡ f.last = ⊎_elim (λ less. absurd (let z = full_is g f ws vs h.limits s calm.opened calm.made r.block less near in omega arith)) (λ ge. omega (arith, k.0)) (cases_lt r.block f.last) in
       let there : w ≡ committed_word g ws f.last = ap (committed_word g ws) last in
       let top = last_is g f ws vs h.limits s calm.opened calm.made in
-      let base = next_at g f ws vs h.limits s calm.opened calm.made in
+      let base = next_at stage g f ws vs h.limits s.puts calm.opened in
       let end : f.next ≡ place g f.last r.offset = base ∙ ap (place g f.last) (omega arith) in
       let mine : place_at g r ≡ f.next = ap (λ (b : ℕ). place g b r.offset) last ∙ sym end in
       empty_is g n next (place_at g r) (mine ∙ all) (subst (λ (m : ℕ). drop_next g m next ≡ m) all (live ∙ sym here ∙ mine)))
@@ -134,7 +136,7 @@ module _ (g : Grid) (n next : ℕ) (f : Front) (ws : List ℕ) (vs : List View) 
       let within = found.within in
       let is : w ≡ reserved_word g ws head = ap (reserved_word g ws) k.0 in
       let e : w ≡ packed r = let z = k.1 in omega arith in
-      let all = accepted_of h refl in
+      let all = accepted_of (put_here h) refl in
       let producer = calm.producer in
       let live = live_is g f ws vs h.limits s calm next h.answered r.offset (omega arith) (let z = k.1 in let y = k.0 in omega arith) (let z = k.2 in omega arith) in
       let here : place_at g r ≡ drop_next g n next = ap (λ (b : ℕ). place g b r.offset) k.0 ∙ sym live ∙ ap (λ (m : ℕ). drop_next g m next) all in
@@ -155,14 +157,14 @@ module _ (g : Grid) (n next : ℕ) (f : Front) (ws : List ℕ) (vs : List View) 
       let s = h.sound in
       let of = knows_take g f ws vs h.limits s id v h.at (Verify at) h.phase in
       let opened : head ≤ f.last = head_opened g f ws vs h.limits s in
-      let producer = head_of h refl in
-      let front = open_of h refl in
-      let all = accepted_of h refl in
+      let producer = head_of (put_here h) refl in
+      let front = open_of (put_here h) refl in
+      let all = accepted_of (put_here h) refl in
       let to = of.to in
       let block : w / offset_span ≡ at.block = ⊎_elim (λ less. (s.puts.places.words.full at.block less (omega (arith, k.1))).0)
       (λ ge. let z : at.block ≡ f.last = omega arith in ap (λ (b : ℕ). allocated_word g ws b / offset_span) z ∙ front ∙ sym z) (cases_lt at.block f.last) in
       let count = made_counts vs _ of.made in
-      let one = made_of h refl (place_at g at) in
+      let one = made_of (put_here h) refl (place_at g at) in
       loaded g n next ws i _
       (pick_equal (Leads g n next ws) (w / offset_span) at.block _ _
       (λ q. ok_is g n next (place_at g at) k.0 (λ e. let z = none_from (place_at g at) f.next (omega arith) in omega arith))
@@ -177,7 +179,7 @@ module _ (g : Grid) (n next : ℕ) (f : Front) (ws : List ℕ) (vs : List View) 
       let calm = calm_of h refl (λ b. refl) in
       let spent = knows_take g f ws vs h.limits s id v h.at (NextCom sp) h.phase in
       let opened : head ≤ f.last = head_opened g f ws vs h.limits s in
-      let all = accepted_of h refl in
+      let all = accepted_of (put_here h) refl in
       let known = spent.known in
       let full = spent.full in
       let block = calm.consumer in

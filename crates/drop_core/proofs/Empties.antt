@@ -1,10 +1,9 @@
 -- What a take has shown where it answers that there is no entry, or that its entry was overrun.
-use Rattle.std.proofs.Common.{◌≡◌, ℕ, ◌+◌, ◌-◌, ◌*◌, ◌/◌, ◌%◌, ◌<◌, ◌≤◌, ◌≢◌, ◌⊎◌, List, ◌++◌, refl, sym, ap, ◌∙◌, subst, inl, inr, ⊎_elim, arith}
+use Rattle.std.proofs.Common.{◌≡◌, ℕ, ◌+◌, ◌/◌, ◌%◌, ◌<◌, ◌≤◌, ◌≢◌, ◌⊎◌, List, ◌++◌, refl, sym, ap, ◌∙◌, subst, inl, inr, ⊎_elim, arith}
 use Rattle.std.specs.Prelude.{Some, slice_get}
 use Rattle.std.specs.List.{sum_by}
 use Rattle.std.proofs.lemmas.Bool.{cases_eq, cases_lt}
 use Rattle.std.proofs.lemmas.List.Sums.{sum_by-le-sum_by}
-use Rattle.std.proofs.lemmas.Nat.{div-add-mod', mod_below}
 use Rattle.cursor_word.specs.Shape.{Grid, IsWithinLimits}
 use Rattle.cursor_word.specs.Cursor.{offset_span, packed, place_at, unpacked}
 use Rattle.cursor_word.specs.declared.cursor.Cursor.{Cursor}
@@ -26,17 +25,13 @@ use Rattle.drop_core.specs.Counts.{fetches, reading}
 use Rattle.drop_core.specs.Sound.{IsSoundAt}
 use Rattle.drop_core.specs.Alone.{IsBehind}
 use Rattle.drop_core.specs.Moments.{EmptyAt, IsReused, OverrunAt}
-use Rattle.drop_core.proofs.Frames.{rows}
+use Rattle.put_side.proofs.Lows.{of_place, rows}
 use Rattle.drop_core.proofs.Loads.{committed_from, knows_take, reserved_from}
 use Rattle.put_side.proofs.Commits.{one_met}
 use Rattle.drop_core.proofs.Verifies.{head_opened, overrun}
 
 above : {a b : ℕ} → a ≤ b → b ≢ a → a < b
 above {a = a} {b = b} le n = ⊎_elim (λ l. l) (λ l. absurd (n (omega arith))) (cases_lt a b)
-
--- a place by its block and offset
-pub of_place : (g : Grid) (q : ℕ) → 1 ≤ g.size → (place g (g.blocks + q / g.size) (q % g.size) ≡ q) × (q % g.size < g.size)
-of_place g q pos = (ap (λ (b : ℕ). b * g.size + q % g.size) (let e : g.blocks + q / g.size - g.blocks ≡ q / g.size = omega arith in e) ∙ div-add-mod' q g.size, mod_below q g.size pos)
 
 module _ (g : Grid) (f : Front) (ws : List ℕ) (vs : List View) (limits : IsWithinLimits g) (s : IsSoundAt g f ws vs) (id : ℕ) (v : View) (at : slice_get vs id ≡ Some v) where
   -- block k was reused

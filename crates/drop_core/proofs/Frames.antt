@@ -1,30 +1,34 @@
--- What a seat on the side of takes remembers lasts, since words and made lists only grow; and what stays where a step reserves nothing.
-use Rattle.std.proofs.Common.{◌≡◌, ℕ, ◌+◌, ◌-◌, ◌/◌, ◌%◌, ◌≤◌, ◌⊎◌, List, [], sym, ap, ◌∙◌, subst, inl, inr, ⊎_elim, arith}
+-- What a seat on the side of takes remembers lasts, since words and made lists only grow; and what stays where a step reserves nothing, or raises a word that takes move.
 use Rattle.std.specs.Prelude.{Option, Some, slice_get, slice_set, slice_index}
 use Rattle.std.specs.List.{sum_by}
-use Rattle.std.proofs.Math.Nat.{mul-le-mul_right}
+use Rattle.std.proofs.Common.{◌≡◌, ℕ, ◌+◌, ◌/◌, ◌%◌, ◌≤◌, ◌⊎◌, List, [], sym, ap, ◌∙◌, subst, inl, inr, ⊎_elim, arith, ◌*◌, ◌<◌, ◌≢◌, ◌++◌, length}
+use Rattle.std.proofs.lemmas.List.{get_or-set_other}
 use Rattle.cursor_word.specs.Shape.{Grid}
 use Rattle.cursor_word.specs.Cursor.{offset_span, place_at}
 use Rattle.cursor_word.specs.declared.cursor.Cursor.{Cursor}
 use Rattle.rail.specs.declared.entry.Placed.{Placed}
-use Rattle.rail.specs.Items.{IsRising}
+use Rattle.rail.specs.Items.{IsRising, places}
 use Rattle.machine.proofs.Lists.{get_set, sum_set}
-use Rattle.put_side.specs.Cursors.{Front, place, put_cursors}
-use Rattle.put_side.proofs.Frames.{IsGrown, grown_same}
-use Rattle.put_side.proofs.Made.{KeepsMade}
+use Rattle.put_side.specs.Cursors.{Front, place, put_cursors, reserved_word}
 use Rattle.put_side.specs.Counts.{times}
 use Rattle.put_side.specs.PutSide.{PutSide}
 use Rattle.put_side.specs.Manned.{IsManned}
 use Rattle.put_side.specs.PutTable.{stage_of}
+use Rattle.put_side.specs.declared.put_phase.PutPhase.TheVariants.{OpenM}
+use Rattle.put_side.proofs.Frames.{IsGrown, grown_same}
+use Rattle.put_side.proofs.Made.{KeepsMade}
 use Rattle.put_side.proofs.Sums.{sum_same}
+use Rattle.put_side.proofs.Lows.{rows}
+use Rattle.put_side.proofs.TakeWords.{set_at}
+use Rattle.put_side.proofs.Raises.{raised_to}
 use Rattle.drop_core.specs.declared.phase.DropPhase.{DropPhase}
-use Rattle.drop_core.specs.declared.phase.DropPhase.TheVariants.{OpenM, Take}
+use Rattle.drop_core.specs.declared.phase.DropPhase.TheVariants.{Put, Take}
 use Rattle.drop_core.specs.declared.take_phase.DropTake.{DropTake}
 use Rattle.drop_core.specs.declared.take_phase.DropTake.TheVariants.{HeadC, SeeRes, SeeCom, SeeAll, Reserve, Read, Verify, NextCom, Jump, OpenR, RaiseC}
 use Rattle.drop_core.specs.Types.{View}
 use Rattle.drop_core.specs.Stage.{stage}
 use Rattle.drop_core.specs.Words.{Cursors, IsPassed, TakeWords, cursors}
-use Rattle.drop_core.specs.Counts.{IsAttended, TakeCounts, fetched, fetches, raises_consumer, raising, reading_in}
+use Rattle.drop_core.specs.Counts.{IsAttended, TakeCounts, fetched, fetches, raises_consumer, raising, reading_in, reading}
 use Rattle.drop_core.specs.Sound.{AreBelow, DropKnows, IsFound, IsHead, IsNextLive, IsReading, IsSoundAt, TakeFits, TakeKnows, TakeTurn}
 
 -- a later state: cursors and heads only grow, and so do the last block that was opened and what is made
@@ -36,10 +40,6 @@ pub record IsLater (last last' : ℕ) (c c' : Cursors) : Type 0 where
 
 pub nothing_later : (last : ℕ) (c : Cursors) → IsLater last last c c
 nothing_later last c = record { last_to = omega arith; puts = grown_same c.puts; consumer = omega arith; reserved = λ k. omega arith }
-
--- the rows of a block are before those of a later one
-pub rows : (g : Grid) (n m : ℕ) → n ≤ m → place g n 0 ≤ place g m 0
-rows g n m le = let d : n - g.blocks ≤ m - g.blocks = omega arith in let w = mul-le-mul_right g.size d in omega arith
 
 module _ (g : Grid) (last last' : ℕ) (c c' : Cursors) (later : IsLater last last' c c') where
   pub passed_later : (k : ℕ) → IsPassed g last c k → IsPassed g last' c' k
@@ -84,7 +84,7 @@ module _ (g : Grid) (last last' : ℕ) (c c' : Cursors) (later : IsLater last la
 
     -- what a seat remembers lasts
     pub knows_later : (taken : List Placed) (read : List ℕ) (ph : Option DropPhase) → DropKnows g last c vs taken read ph → DropKnows g last' c' vs' taken read ph
-    knows_later taken read (Some (OpenM full)) f = let e = later.puts.committed (full.block + 1) in omega (arith, f)
+    knows_later taken read (Some (Put (OpenM full))) f = let e = later.puts.committed (full.block + 1) in omega (arith, f)
     knows_later taken read (Some (Take q)) f = take_knows_later taken read q f
     knows_later taken read ph f = tt
 
@@ -178,3 +178,25 @@ module _ (g : Grid) (f f' : Front) (ws ws' : List ℕ) (vs : List View) (id : �
         to_head = subst (λ (n : ℕ). AreBelow v'.taken (place g (n + 1) 0)) (sym q.consumer) (subst (λ (l : List Placed). AreBelow l (place g (slice_index ws 1 + 1) 0)) (sym taken) own.to_head);
         unread = unread;
       }
+
+pub fetched_reading : (g : Grid) (v : View) (ps : List ℕ) → reading g v.phase ≡ ps → fetched g v ≡ places v.taken ++ ps
+fetched_reading g v ps e = ap (λ (l : List ℕ). places v.taken ++ l) e
+
+-- the reserved cursors where one word is raised
+pub record IsRaised (g : Grid) (ws ws' : List ℕ) (b x : ℕ) : Type 0 where
+  pub there : (k : ℕ) → k % g.blocks ≡ b % g.blocks → reserved_word g ws' k ≡ x
+  pub elsewhere : (k : ℕ) → k % g.blocks ≢ b % g.blocks → reserved_word g ws' k ≡ reserved_word g ws k
+  pub consumer : slice_index ws' 1 ≡ slice_index ws 1
+
+pub raised : (g : Grid) (ws : List ℕ) (b x : ℕ) → 4 + 4 * (b % g.blocks) < length ws → IsRaised g ws (slice_set ws (4 + 4 * (b % g.blocks)) x) b x
+raised g ws b x long =
+    let set = set_at g 4 ws b x long in record { there = set.there; elsewhere = set.elsewhere; consumer = get_or-set_other ws (4 + 4 * (b % g.blocks)) 1 x 0 (λ e. omega arith) }
+
+-- the state is a later one, where a word is raised
+pub take_later : (g : Grid) (last : ℕ) (ws : List ℕ) (i x : ℕ) → slice_index ws i ≤ x → i < length ws → IsLater last last (cursors g ws) (cursors g (slice_set ws i x))
+take_later g last ws i x up long = record {
+  last_to = omega arith;
+  puts = record { producer = raised_to ws i x _ long up; allocated = λ k. raised_to ws i x _ long up; committed = λ k. raised_to ws i x _ long up };
+  consumer = raised_to ws i x _ long up;
+  reserved = λ k. raised_to ws i x _ long up;
+}

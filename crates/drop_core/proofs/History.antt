@@ -34,7 +34,7 @@ use Rattle.put_side.proofs.Moves.{IsMovedByPuts, after_op, moves_by}
 use Rattle.put_side.proofs.Few.{last_small}
 use Rattle.put_side.proofs.Sums.{sum_same, times_push}
 use Rattle.drop_core.specs.declared.phase.DropPhase.{DropPhase}
-use Rattle.drop_core.specs.declared.phase.DropPhase.TheVariants.{HeadP, SeeA, AddA, Write, Commit, SeeM, OpenM, OpenA, RaiseP, Take}
+use Rattle.drop_core.specs.declared.phase.DropPhase.TheVariants.{Put, SeeM, Take}
 use Rattle.drop_core.specs.declared.take_phase.DropTake.{DropTake}
 use Rattle.drop_core.specs.declared.take_phase.DropTake.TheVariants.{HeadC, SeeRes, SeeCom, SeeAll, Reserve, Read, Verify, NextCom, Jump, OpenR, RaiseC}
 use Rattle.drop_core.specs.Types.{After, MachineState, View}
@@ -46,7 +46,7 @@ use Rattle.drop_core.specs.Counts.{takes}
 use Rattle.drop_core.specs.Sound.{IsSound, IsSoundAt}
 use Rattle.drop_core.specs.Rest.{next_place, place_answered, places_answered}
 use Rattle.drop_core.specs.Alone.{IsBehind, IsNext, next_after}
-use Rattle.drop_core.proofs.PutSteps.{puts}
+use Rattle.drop_core.proofs.CallTable.{puts}
 use Rattle.drop_core.proofs.Keeping.{keeps}
 use Rattle.drop_core.proofs.Reached.{moment_sound}
 use Rattle.put_side.proofs.Raises.{raised_to}
@@ -89,14 +89,7 @@ module _ (g : Grid) (f : Front) (ws : List ℕ) (vs : List View) (limits : IsWit
   pub takes_grow : (p : DropPhase) → TakesGrow g ws (words_after table g ws v p)
   takes_grow (SeeM full) = loads _
   takes_grow (Take q) = take_grows q
-  takes_grow (HeadP turn first) = shared (HeadP turn first) tt
-  takes_grow (SeeA turn first head) = shared (SeeA turn first head) tt
-  takes_grow (AddA turn first head) = shared (AddA turn first head) tt
-  takes_grow (Write at next) = shared (Write at next) tt
-  takes_grow (Commit at) = shared (Commit at) tt
-  takes_grow (OpenM full) = shared (OpenM full) tt
-  takes_grow (OpenA full) = shared (OpenA full) tt
-  takes_grow (RaiseP full) = shared (RaiseP full) tt
+  takes_grow (Put q) = shared (Put q) tt
 
 behind_later : (g : Grid) (ws ws' : List ℕ) (p : ℕ) → TakesGrow g ws ws' → IsBehind g (cursors g ws) p → IsBehind g (cursors g ws') p
 behind_later g ws ws' p grow b =

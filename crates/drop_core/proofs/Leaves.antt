@@ -1,6 +1,6 @@
 -- Where all seats are at rest, the reserved cursors tell what is left.
-use Rattle.std.proofs.Common.{◌≡◌, ℕ, zero, suc, ◌+◌, ◌-◌, ◌*◌, ◌/◌, ◌%◌, ◌<◌, ◌≤◌, List, [], ◌∷◌, Bool, true, false, cond, refl, sym, ap, ◌∙◌, subst, ⊎_elim, arith}
-use Rattle.std.specs.Prelude.{filter, map, nat_le, not, ◌==◌, ◌&&◌, ◌||◌}
+use Rattle.std.proofs.Common.{◌≡◌, ℕ, ◌+◌, ◌-◌, ◌*◌, ◌/◌, ◌%◌, ◌<◌, ◌≤◌, List, Bool, true, false, sym, ap, ◌∙◌, subst, ⊎_elim, arith}
+use Rattle.std.specs.Prelude.{filter, map, nat_le, not, ◌==◌, ◌&&◌}
 use Rattle.std.specs.List.{list_any, range_with_len, sum_by}
 use Rattle.std.proofs.lemmas.Bool.{cases_lt}
 use Rattle.std.proofs.lemmas.Bool.Decides.{nat_tests}
@@ -11,68 +11,29 @@ use Rattle.rail.specs.Items.{placed, places}
 use Rattle.rail.specs.Outcome.{is_left}
 use Rattle.machine.specs.Invariant.{made_total}
 use Rattle.machine.specs.Steps.{AllRest}
-use Rattle.put_side.specs.Counts.{one_at, times}
-use Rattle.put_side.specs.Cursors.{Front, place, put_cursors}
+use Rattle.put_side.specs.Counts.{times}
+use Rattle.put_side.specs.Cursors.{Front, put_cursors}
 use Rattle.machine.specs.Entries.{entry_at}
 use Rattle.put_side.specs.Gathered.{all_taken}
-use Rattle.put_side.specs.PutTable.{stage_in, stage_of}
+use Rattle.put_side.specs.PutTable.{stage_of}
 use Rattle.put_side.proofs.Facts.{allocated_to, place_next}
 use Rattle.put_side.proofs.Rests.{claims_number, last_entered}
-use Rattle.put_side.proofs.Sums.{times-cons}
 use Rattle.call_laws.specs.Left.{is_unreserved, unreserved_in}
 use Rattle.drop_core.specs.Types.{View}
 use Rattle.drop_core.specs.Stage.{stage}
 use Rattle.drop_core.specs.Counts.{fetches}
 use Rattle.drop_core.specs.Gathered.{left_in}
-use Rattle.drop_core.specs.Words.{IsGone, cursors}
+use Rattle.drop_core.specs.Words.{cursors}
 use Rattle.drop_core.specs.Sound.{IsSound, IsSoundAt}
-use Rattle.drop_core.proofs.Empties.{of_place}
+use Rattle.put_side.proofs.Filters.{any_there, filter_same, filter_skips, none_there}
+use Rattle.put_side.proofs.Lows.{of_place}
 use Rattle.drop_core.proofs.Settles.{low_is, none_puts, takes_all}
-
--- filters over the numbers from one on
-module _ (f : ℕ → Placed) where
-  filter_same : (p q : Placed → Bool) (n a : ℕ) → ((k : ℕ) → a ≤ k → k < a + n → p (f k) ≡ q (f k)) → filter p (map f (range_with_len a n)) ≡ filter q (map f (range_with_len a n))
-  filter_same p q zero a same = refl
-  filter_same p q (suc n) a same =
-      let rest = filter_same p q n (a + 1) (λ k le less. same k (omega arith) (omega arith)) in
-      ap (λ (b : Bool). cond b (f a ∷ filter p (map f (range_with_len (a + 1) n))) (filter p (map f (range_with_len (a + 1) n)))) (same a (omega arith) (omega arith))
-      ∙ ap (λ (l : List Placed). cond (q (f a)) (f a ∷ l) l) rest
-
-  filter_skips : (p : Placed → Bool) (m n a : ℕ) → ((k : ℕ) → a ≤ k → k < a + m → p (f k) ≡ false) → filter p (map f (range_with_len a (m + n))) ≡ filter p (map f (range_with_len (a + m) n))
-  filter_skips p zero n a none =
-      ap (λ (b : ℕ). filter p (map f (range_with_len a b))) (let z : zero + n ≡ n = omega arith in z)
-      ∙ ap (λ (b : ℕ). filter p (map f (range_with_len b n))) (let z : a ≡ a + zero = omega arith in z)
-  filter_skips p (suc m) n a none =
-      ap (λ (b : ℕ). filter p (map f (range_with_len a b))) (let z : suc m + n ≡ suc (m + n) = omega arith in z)
-      ∙ ap (λ (b : Bool). cond b (f a ∷ filter p (map f (range_with_len (a + 1) (m + n)))) (filter p (map f (range_with_len (a + 1) (m + n))))) (none a (omega arith) (omega arith))
-      ∙ filter_skips p m n (a + 1) (λ k le less. none k (omega arith) (omega arith))
-      ∙ ap (λ (b : ℕ). filter p (map f (range_with_len b n))) (let z : a + 1 + m ≡ a + suc m = omega arith in z)
-
-le_fails : (a b : ℕ) → b < a → nat_le a b ≡ false
-le_fails a b less = grind (arith, nat_tests)
 
 le_holds : (a b : ℕ) → a ≤ b → nat_le a b ≡ true
 le_holds a b le = grind (arith, nat_tests)
 
--- whether an item of a place stands in a list, by how often the place does
-any_there : (items : List Placed) (p : ℕ) → 1 ≤ times p (places items) → list_any (λ (t : Placed). t.place == p) items ≡ true
-any_there [] p some = absurd (omega arith)
-any_there (x ∷ xs) p some =
-    let t : times p (places (x ∷ xs)) ≡ one_at x.place p + times p (places xs) = times-cons p x.place (places xs) in
-    ⊎_elim (λ none. let here : (x.place == p) ≡ true = grind (arith, nat_tests) in ap (λ (b : Bool). b || list_any (λ (t : Placed). t.place == p) xs) here)
-    (λ more. ap (λ (b : Bool). (x.place == p) || b) (any_there xs p more) ∙ or_true (x.place == p))
-    (cases_lt (times p (places xs)) 1)
-  where
-    or_true : (b : Bool) → (b || true) ≡ true
-    or_true true = refl
-    or_true false = refl
-
-none_there : (items : List Placed) (p : ℕ) → times p (places items) ≡ 0 → list_any (λ (t : Placed). t.place == p) items ≡ false
-none_there [] p none = refl
-none_there (x ∷ xs) p none =
-    let t : times p (places (x ∷ xs)) ≡ one_at x.place p + times p (places xs) = times-cons p x.place (places xs) in
-    let here : (x.place == p) ≡ false = let z : one_at x.place p ≡ 0 = omega arith in grind (arith, nat_tests) in
-    ap (λ (b : Bool). b || list_any (λ (t : Placed). t.place == p) xs) here ∙ none_there xs p (omega arith)
+le_fails : (a b : ℕ) → b < a → nat_le a b ≡ false
+le_fails a b less = grind (arith, nat_tests)
 
 module _ (g : Grid) (f : Front) (ws : List ℕ) (vs : List View) (limits : IsWithinLimits g) (s : IsSoundAt g f ws vs) (rest : AllRest vs) where
   -- of the blocks that aren't reused, a place is taken where it is reserved

@@ -1,9 +1,8 @@
 -- Loads: of a put that looks at the older block, and of a take.
 use Rattle.std.proofs.Common.{◌≡◌, ℕ, ◌+◌, ◌-◌, ◌*◌, ◌/◌, ◌%◌, ◌<◌, ◌≤◌, ◌≢◌, List, [], ◌++◌, Bool, true, false, refl, sym, ap, ◌∙◌, subst, inl, inr, ⊎_elim, arith}
-use Rattle.std.specs.Prelude.{Option, Some, None, slice_get, slice_set, slice_index, if◌then◌else◌, nat_lt, ◌==◌, ◌&&◌}
+use Rattle.std.specs.Prelude.{Option, Some, None, slice_get, slice_set, slice_index, if◌then◌else◌, ◌==◌}
 use Rattle.std.specs.List.{sum_by}
 use Rattle.std.proofs.lemmas.Bool.{cases_lt}
-use Rattle.std.proofs.lemmas.Bool.Decides.{eqb_tells}
 use Rattle.std.proofs.lemmas.List.{set-get_or}
 use Rattle.std.proofs.lemmas.List.Sums.{sum_by-append, sum_by-le-sum_by}
 use Rattle.cursor_word.specs.Shape.{Grid, IsWithinLimits}
@@ -19,58 +18,44 @@ use Rattle.machine.specs.declared.op.After.TheVariants.{Next, Done}
 use Rattle.machine.specs.Steps.{phase_after, seen, taken_after, view_after, words_after}
 use Rattle.machine.proofs.Lists.{one_le_sum}
 use Rattle.put_side.specs.Cursors.{Front, PutCursors, committed_word, place, put_cursors, reserved_word}
-use Rattle.put_side.specs.Stages as place
-use Rattle.put_side.specs.Stages.{PutStage, held}
+use Rattle.put_side.specs.declared.put_phase.PutPhase.TheVariants.{OpenM}
+use Rattle.put_side.specs.PutSteps.{IsTurn, older_full}
+use Rattle.put_side.specs.Stages.{PutStage, Away, Fills, held}
+use Rattle.put_side.proofs.Choices.{pick_equal, pick_less, pick_same}
 use Rattle.put_side.specs.Counts.{claims, makes, one_at, sum_below, times}
 use Rattle.put_side.specs.PutTable.{IsNoCommit, stage_after, stage_in, stage_of}
 use Rattle.put_side.proofs.Facts.{committed_below, found_open, physical, place_next, repacked}
-use Rattle.put_side.proofs.Sums.{by_test, by_test_le, none_from, upto_le, upto_all, upto_cut, upto_from}
+use Rattle.put_side.proofs.Sums.{by_test_le, none_from, upto_le, upto_all, upto_cut, upto_from}
 use Rattle.put_side.proofs.Frames.{IsNext, Leaves, grown_same, makes_le}
+use Rattle.put_side.proofs.Keeps.{stage_next}
 use Rattle.put_side.proofs.Loads.{knows_at}
+use Rattle.put_side.proofs.TakeWords.{same_words}
 use Rattle.put_side.proofs.Attends.{IsIdle}
-use Rattle.put_side.proofs.Owns.{KeepsPutWords, keeps_own, manned_own}
+use Rattle.put_side.proofs.Owns.{keeps_own, manned_own}
 use Rattle.drop_core.specs.declared.phase.DropPhase.{DropPhase}
-use Rattle.drop_core.specs.declared.phase.DropPhase.TheVariants.{SeeM, OpenM, Take}
+use Rattle.drop_core.specs.declared.phase.DropPhase.TheVariants.{Put, SeeM, Take}
 use Rattle.drop_core.specs.declared.take_phase.DropTake.{DropTake}
 use Rattle.drop_core.specs.declared.take_phase.DropTake.TheVariants.{HeadC, SeeRes, SeeCom, SeeAll, NextCom, Jump}
 use Rattle.drop_core.specs.Types.{After, View}
-use Rattle.drop_core.specs.PutSteps.{after, older_committed, older_or_not}
-use Rattle.drop_core.specs.TakeSteps.{IsTurn, after_take, is_same, moved_on}
+use Rattle.drop_core.specs.PutSteps.{after, older_or_not}
+use Rattle.drop_core.specs.TakeSteps.{after_take, moved_on}
 use Rattle.drop_core.specs.Steps.{table}
 use Rattle.drop_core.specs.Stage.{stage}
 use Rattle.drop_core.specs.Words.{Cursors, IsGone, IsPassed, cursors}
 use Rattle.drop_core.specs.Counts.{fetches, raises_consumer, reading, reading_in}
 use Rattle.drop_core.specs.Sound.{AreBelow, DropKnows, IsFound, IsSoundAt, TakeKnows, TakeTurn}
-use Rattle.drop_core.proofs.PutSteps.{puts}
+use Rattle.drop_core.proofs.CallTable.{puts}
 use Rattle.put_side.specs.Places.{IsFilled}
 use Rattle.put_side.proofs.Commits.{made_once}
 use Rattle.put_side.proofs.Made.{step_keeps_made}
 use Rattle.drop_core.proofs.Frames.{IsQuiet, knows_later, quiet, quiet_later}
-
--- by what a test for equal numbers tells
-pub by_equal : (a b : ℕ) (P : Bool → Type 0) → (a ≡ b → P true) → (a ≢ b → P false) → P (a == b)
-by_equal a b P hit miss = ⊎_elim (λ t. subst P (sym t.0) (hit t.1)) (λ t. subst P (sym t.0) (miss t.1)) (eqb_tells a b)
-
--- what holds of both branches of a choice holds of the choice
-pub pick_less : (P : After → Type 0) (a b : ℕ) (x y : After) → (a < b → P x) → (b ≤ a → P y) → P (if nat_lt a b then x else y)
-pick_less P a b x y hit miss = by_test a b (λ c. P (if c then x else y)) hit miss
-
-pub pick_equal : (P : After → Type 0) (a b : ℕ) (x y : After) → (a ≡ b → P x) → (a ≢ b → P y) → P (if a == b then x else y)
-pick_equal P a b x y hit miss = by_equal a b (λ c. P (if c then x else y)) hit miss
-
--- by whether a found word is a cursor
-pub pick_same : (P : After → Type 0) (w : ℕ) (m : Cursor) (x y : After) → (w ≡ packed m → P x) → P y → P (if is_same (unpacked w) m then x else y)
-pick_same P w m x y hit miss =
-    by_equal (w / offset_span) m.block (λ b. P (if b && ((w % offset_span) == m.offset) then x else y))
-    (λ k. by_equal (w % offset_span) m.offset (λ b. P (if b then x else y)) (λ o. hit (let r = repacked w in omega arith)) (λ n. miss))
-    (λ n. miss)
 
 -- what follows takes nothing and reads no place, and what it remembers holds
 pub record IsNextDrop (g : Grid) (last : ℕ) (c : Cursors) (vs : List View) (taken : List Placed) (read : List ℕ) (b : After) : Type 0 where
   pub keeps : taken_after taken read b ≡ taken
   pub none : reading g (phase_after b) ≡ []
   pub knows : DropKnows g last c vs taken read (phase_after b)
-  pub away : stage_after stage b ≡ place.Away
+  pub away : stage_after stage b ≡ Away
 
 pub record IsNextPut (g : Grid) (last : ℕ) (c : Cursors) (vs : List View) (taken : List Placed) (read : List ℕ) (b : After) : Type 0 where
   pub keeps : taken_after taken read b ≡ taken
@@ -79,14 +64,10 @@ pub record IsNextPut (g : Grid) (last : ℕ) (c : Cursors) (vs : List View) (tak
   pub no_take : (q : DropTake) → phase_after b ≡ Some (Take q) → ⊥
   pub side : IsNext g last c.puts [] (stage_after stage b)
 
-pub stage_phase : (b : After) → stage_in stage (phase_after b) ≡ stage_after stage b
-stage_phase (Next p) = refl
-stage_phase (Done a) = refl
-
-idle : (g : Grid) (last : ℕ) (cs : PutCursors) (s : PutStage) → s ≡ place.Away → IsNext g last cs [] s
+idle : (g : Grid) (last : ℕ) (cs : PutCursors) (s : PutStage) → s ≡ Away → IsNext g last cs [] s
 idle g last cs s e = subst (IsNext g last cs []) (sym e) record { holds = refl; knows = tt; adds = λ k. inl refl }
 
-opens_no_take : (full : Cursor) (q : DropTake) → phase_after (Next (OpenM full)) ≡ Some (Take q) → ⊥
+opens_no_take : (full : Cursor) (q : DropTake) → phase_after (Next (Put (OpenM full))) ≡ Some (Take q) → ⊥
 opens_no_take full q e = cc
 
 rests_no_take : (q : DropTake) → (let n : Option DropPhase = None in n ≡ Some (Take q)) → ⊥
@@ -121,7 +102,7 @@ module _ (g : Grid) (f : Front) (ws : List ℕ) (vs : List View) (limits : IsWit
       let b : After = after g p old in
       let v' : View = seen table g v p old in
       let vs' : List View = slice_set vs id v' in
-      let to : Leaves (stage_of stage) v v' (stage_after stage b) = record { made = puts.makes_none g p old v.made v.entry commit; entry = refl; stands = stage_phase b } in
+      let to : Leaves (stage_of stage) v v' (stage_after stage b) = record { made = puts.makes_none g p old v.made v.entry commit; entry = refl; stands = stage_next stage b } in
       let q : IsQuiet g f.last f.last ws ws v v' = record {
         last_to = omega arith;
         consumer = refl;
@@ -131,7 +112,7 @@ module _ (g : Grid) (f : Front) (ws : List ℕ) (vs : List View) (limits : IsWit
         unraised = λ b. ap (raises_consumer b) e ∙ raises b;
       } in
       let grow = step_keeps_made table g vs id v p old at in
-      let keeps : KeepsPutWords g ws ws = record { all = refl; producer = refl; allocated = λ k. refl; committed = λ k. refl; entries = λ j l. refl } in
+      let keeps = same_words g ws in
       let side = keeps_own (stage_of stage) g f ws ws vs id v v' (stage p) (stage_after stage b) at (ap (stage_in stage) e) keeps holds to next s.puts in
       let known = knows_later g f.last f.last (cursors g ws) (cursors g ws) (quiet_later g f.last f.last ws ws v v' q) vs vs' grow v.taken v.read (phase_after b) knows in
       subst (λ (w : List ℕ). IsSoundAt g f w vs') (sym (set-get_or ws i 0))
@@ -151,9 +132,9 @@ module _ (g : Grid) (f : Front) (ws : List ℕ) (vs : List View) (limits : IsWit
   keeps_SeeM full e =
       let i : ℕ = 3 + 4 * ((full.block + 1) % g.blocks) in
       let w : ℕ = slice_index ws i in
-      let filled : IsFilled g (put_cursors g ws) full = knows_at (stage_of stage) g f ws vs id v v s.puts.places at (place.Fills full) (ap (stage_in stage) e) in
+      let filled : IsFilled g (put_cursors g ws) full = knows_at (stage_of stage) g f ws vs id v v s.puts.places at (Fills full) (ap (stage_in stage) e) in
       let next : IsNextPut g f.last (cursors g ws) vs v.taken v.read (older_or_not g full w) =
-      by_test_le (older_committed g full.block) w (λ t. IsNextPut g f.last (cursors g ws) vs v.taken v.read (if t then Next (OpenM full) else Done (answer.Put (put.Busy (why.Unfinished (full.block + 1 - g.blocks) full (unpacked w))))))
+      by_test_le (older_full g full.block) w (λ t. IsNextPut g f.last (cursors g ws) vs v.taken v.read (if t then Next (Put (OpenM full)) else Done (answer.Put (put.Busy (why.Unfinished (full.block + 1 - g.blocks) full (unpacked w))))))
       (λ l. record { keeps = refl; none = refl; knows = l; no_take = opens_no_take full; side = record { holds = refl; knows = filled; adds = λ k. inl refl } })
       (λ l. record { keeps = refl; none = refl; knows = tt; no_take = rests_no_take; side = idle g _ _ _ refl }) in
       loads_drop (SeeM full) i e tt record { allocated = refl; producer = refl; entered = refl } refl (λ b. refl) refl refl next.keeps next.none next.knows next.side (λ q z n. absurd (next.no_take q z))
@@ -294,7 +275,7 @@ module _ (g : Grid) (f : Front) (ws : List ℕ) (vs : List View) (limits : IsWit
       let most = upto_le m.offset (λ o. sum_by (makes (place g k o)) vs) once in
       let full : sum_below m.offset (λ o. sum_by (makes (place g k o)) vs) ≡ m.offset = omega arith in
       record { keeps = refl; none = refl; away = refl; knows = (h, let z = upto_all m.offset r.offset (λ o. sum_by (makes (place g k o)) vs) once full d.above in omega arith) })
-      (pick_equal NextDrop (w / offset_span) m.block _ _ (λ z. record { keeps = refl; none = refl; knows = tt; away = refl }) (λ z. moved_next g f.last (cursors g ws) vs v.taken v.read m (unpacked w))) in
+      (λ n. pick_equal NextDrop (w / offset_span) m.block _ _ (λ z. record { keeps = refl; none = refl; knows = tt; away = refl }) (λ z. moved_next g f.last (cursors g ws) vs v.taken v.read m (unpacked w))) in
       loads_take (SeeAll r m) i e (λ b. refl) refl refl next
 
   -- load of the committed cursor of the next block

@@ -1,6 +1,6 @@
 -- What each answer tells of the state in which its step was done.
 use Rattle.std.proofs.Common.{◌≡◌, ℕ, ◌+◌, ◌-◌, ◌*◌, ◌/◌, ◌%◌, ◌<◌, ◌≤◌, ◌≢◌, List, sym, ap, ◌∙◌, subst, inl, inr, ⊎_elim, arith}
-use Rattle.std.specs.Prelude.{Some, slice_get, if◌then◌else◌, ◌==◌, ◌&&◌}
+use Rattle.std.specs.Prelude.{Some, slice_get, if◌then◌else◌}
 use Rattle.std.specs.List.{sum_by}
 use Rattle.std.proofs.lemmas.Bool.{cases_lt}
 use Rattle.std.proofs.lemmas.List.Sums.{sum_by-le-sum_by}
@@ -17,20 +17,23 @@ use Rattle.machine.specs.declared.op.After.TheVariants.{Next, Done}
 use Rattle.machine.specs.Steps.{finds}
 use Rattle.put_side.specs.Cursors.{Front, allocated_word, committed_word, place, reserved_word}
 use Rattle.put_side.specs.Counts.{claims, makes}
-use Rattle.put_side.specs.Stages as place
-use Rattle.put_side.specs.Places as puts
+use Rattle.put_side.specs.declared.put_phase.PutPhase.TheVariants.{OpenM}
+use Rattle.put_side.specs.Stages.{Fills}
+use Rattle.put_side.proofs.Choices.{pick_equal, pick_less, pick_same}
+use Rattle.put_side.proofs.PutOutcomes.{put_tells}
 use Rattle.put_side.specs.PutTable.{stage_in, stage_of}
-use Rattle.put_side.proofs.Facts.{found, physical}
+use Rattle.put_side.proofs.Facts.{physical}
 use Rattle.put_side.proofs.Frames.{makes_le}
 use Rattle.put_side.proofs.Loads.{knows_at}
 use Rattle.put_side.proofs.Sums.{by_test_le, none_from, upto_none}
+use Rattle.put_side.specs.PutSteps.{older_full}
 use Rattle.drop_core.specs.declared.phase.DropPhase.{DropPhase}
-use Rattle.drop_core.specs.declared.phase.DropPhase.TheVariants.{HeadP, SeeA, AddA, Write, Commit, SeeM, OpenM, OpenA, RaiseP, Take}
+use Rattle.drop_core.specs.declared.phase.DropPhase.TheVariants.{Put, SeeM, Take}
 use Rattle.drop_core.specs.declared.take_phase.DropTake.{DropTake}
 use Rattle.drop_core.specs.declared.take_phase.DropTake.TheVariants.{HeadC, SeeRes, SeeCom, SeeAll, Reserve, Read, Verify, NextCom, Jump, OpenR, RaiseC}
 use Rattle.drop_core.specs.Types.{After, MachineState, View}
-use Rattle.drop_core.specs.PutSteps.{after, filled, older_committed}
-use Rattle.drop_core.specs.TakeSteps.{in_first, is_same}
+use Rattle.drop_core.specs.PutSteps.{after}
+use Rattle.drop_core.specs.TakeSteps.{in_first}
 use Rattle.drop_core.specs.Steps.{table}
 use Rattle.drop_core.specs.Stage.{stage}
 use Rattle.drop_core.specs.Sound.{IsAhead, IsFound, IsSoundAt}
@@ -38,7 +41,7 @@ use Rattle.drop_core.specs.Words.{cursors}
 use Rattle.drop_core.specs.Moments.{EmptyAt, OverrunAt}
 use Rattle.drop_core.specs.Causes.{Differ}
 use Rattle.drop_core.specs.Alone.{IsBehind}
-use Rattle.drop_core.proofs.Loads.{by_equal, knows_take, pick_equal, pick_less, reserved_from}
+use Rattle.drop_core.proofs.Loads.{knows_take, reserved_from}
 use Rattle.drop_core.proofs.Empties.{behind_Verify, empty_NextCom, empty_SeeCom, overrun_Verify}
 
 -- the step that finds an entry overrun
@@ -62,13 +65,6 @@ TellsNext g w p (Done a) = Tells g w p a
 
 blocks_apart : (c d : Cursor) → c.block ≢ d.block → c ≢ d
 blocks_apart c d n e = n (ap (λ (x : Cursor). x.block) e)
-
--- by whether a found word is a cursor
-pub pick_same : (P : After → Type 0) (w : ℕ) (m : Cursor) (x y : After) → (m ≡ unpacked w → P x) → (m ≢ unpacked w → P y) → P (if is_same (unpacked w) m then x else y)
-pick_same P w m x y hit miss =
-    by_equal (w / offset_span) m.block (λ b. P (if b && ((w % offset_span) == m.offset) then x else y))
-    (λ k. by_equal (w % offset_span) m.offset (λ b. P (if b then x else y)) (λ o. hit (λ i. record { block = sym k i; offset = sym o i })) (λ n. miss (λ e. n (ap (λ (c : Cursor). c.offset) (sym e)))))
-    (λ n. miss (λ e. n (ap (λ (c : Cursor). c.block) (sym e))))
 
 -- a word above a cursor holds a later cursor
 before_word : (c : Cursor) (w : ℕ) → c.offset < offset_span → packed c < w → IsBefore c (unpacked w)
@@ -111,34 +107,17 @@ module _ (g : Grid) (f : Front) (ws : List ℕ) (vs : List View) (limits : IsWit
     abbrev T : After → Type 0
     T b = TellsNext g here p b
 
-    filled_tells : (turn : ℕ) (first : Cursor) (head w : ℕ) → puts.IsTurn g turn first head → head ≤ w / offset_span → (first.block < w / offset_span → Differ (why.Moved first (unpacked w)) p) → T (filled turn first (unpacked w))
-    filled_tells turn first head w f from told = pick_equal T turn 1 _ _ (λ e. tt) (λ n. ⊎_elim (λ e. absurd (n e)) (λ q. told (omega (arith, q.below))) f)
-
     left_tells : (turn : ℕ) (on : DropTake) (earlier later : Cursor) → (turn ≢ 1 → Differ (why.Moved earlier later) p) → T (in_first turn on earlier later)
     left_tells turn on earlier later apart = pick_equal T turn 1 _ _ (λ e. tt) (λ n. apart n)
 
   pub step_tells : (p : DropPhase) → v.phase ≡ Some p → T p (after g p (finds table g ws v p))
-  step_tells (HeadP turn first) e = tt
-  step_tells (SeeA turn first head) e =
-      let p : DropPhase = SeeA turn first head in
-      let k = knows_at (stage_of stage) g f ws vs id v v s.puts.places at (place.SeeA turn first head) (ap (stage_in stage) e) in
-      let is = found s.puts.places.words limits.blocks_from (physical g ws 2) head k.1.to in
-      pick_less (T p) (allocated_word g ws head % offset_span) g.size _ _ (λ l. tt) (λ l. filled_tells p turn first head (allocated_word g ws head) k.0 is.from (λ z. z))
-  step_tells (AddA turn first head) e =
-      let p : DropPhase = AddA turn first head in
-      let k = knows_at (stage_of stage) g f ws vs id v v s.puts.places at (place.AddA turn first head) (ap (stage_in stage) e) in
-      let is = found s.puts.places.words limits.blocks_from (physical g ws 2) head k.1.to in
-      pick_less (T p) (allocated_word g ws head % offset_span) g.size _ _ (λ l. tt) (λ l. filled_tells p turn first head (allocated_word g ws head) k.0 is.from (λ z. z))
-  step_tells (Write c next) e = pick_less (T (Write c next)) (next + 1) g.width _ _ (λ l. tt) (λ l. tt)
-  step_tells (Commit c) e = tt
+  step_tells (Put q) e =
+      put_tells (stage_of stage) Put SeeM g limits f ws vs id v s.puts.places at (T (Put q)) (record { next = λ r. tt; fills = λ full. tt; ok = λ place gains. tt; moved = λ earlier later less. less }) q (ap (stage_in stage) e)
   step_tells (SeeM full) e =
       let w : ℕ = committed_word g ws (full.block + 1) in
-      let k = knows_at (stage_of stage) g f ws vs id v v s.puts.places at (place.Fills full) (ap (stage_in stage) e) in
-      by_test_le (older_committed g full.block) w (λ t. T (SeeM full) (if t then Next (OpenM full) else Done (answer.Put (put.Busy (why.Unfinished (full.block + 1 - g.blocks) full (unpacked w))))))
+      let k = knows_at (stage_of stage) g f ws vs id v v s.puts.places at (Fills full) (ap (stage_in stage) e) in
+      by_test_le (older_full g full.block) w (λ t. T (SeeM full) (if t then Next (Put (OpenM full)) else Done (answer.Put (put.Busy (why.Unfinished (full.block + 1 - g.blocks) full (unpacked w))))))
       (λ l. tt) (λ l. blocks_apart full (unpacked w) (λ z. let from = k.from in omega (arith, limits.blocks_from, limits.size_to)))
-  step_tells (OpenM full) e = tt
-  step_tells (OpenA full) e = tt
-  step_tells (RaiseP full) e = tt
   step_tells (Take (HeadC turn first)) e = tt
   step_tells (Take (SeeRes turn first head)) e =
       let p : DropPhase = Take (SeeRes turn first head) in

@@ -1,8 +1,9 @@
--- The order of the seats is of no matter for the invariant.
-use Rattle.std.proofs.Common.{ℕ, ◌/◌, List, inl, inr, ⊎_elim, arith}
+-- The invariant does not mind in which order the seats stand.
 use Rattle.std.specs.Prelude.{IsPermutation}
+use Rattle.std.proofs.Common.{ℕ, ◌/◌, List, inl, inr, ⊎_elim, arith}
 use Rattle.cursor_word.specs.Shape.{Grid}
 use Rattle.cursor_word.specs.Cursor.{offset_span}
+use Rattle.call_laws.specs.Seats.{AllMayBegin, IsOrderless}
 use Rattle.put_side.specs.Cursors.{place, put_cursors}
 use Rattle.put_side.specs.Counts.{makes}
 use Rattle.put_side.specs.PutTable.{stage_of}
@@ -12,6 +13,7 @@ use Rattle.drop_core.specs.Stage.{stage}
 use Rattle.drop_core.specs.Words.{Cursors, TakeWords, cursors}
 use Rattle.drop_core.specs.Counts.{IsAttended, TakeCounts, fetches, raising}
 use Rattle.drop_core.specs.Sound.{IsSound}
+use Rattle.drop_core.specs.Steps.{table}
 use Rattle.drop_core.proofs.Frames.{IsLater, fits_later, nothing_later}
 
 module _ (g : Grid) (last : ℕ) (c : Cursors) (vs us : List View) (moved : IsPermutation vs us) where
@@ -55,3 +57,9 @@ permuted_sound g ws vs us moved k =
         each = λ j u at. let i = view_from vs us moved j u at in fits_later g last last c c none vs us (permuted_made vs us moved) u (s.each i.0 u i.1);
       };
     }
+
+pub orderless : IsOrderless IsSound
+orderless g ws vs us moved s = permuted_sound g ws vs us moved s
+
+pub all_may_begin : AllMayBegin table
+all_may_begin g seat call = tt

@@ -1,17 +1,20 @@
--- Each answer of a step is as a queue promises, where the seat's trail has what its call found.
-use Rattle.std.proofs.Common.{◌≡◌, ◌≢◌, ℕ, ◌+◌, ◌/◌, ◌%◌, ◌<◌, ◌≤◌, true, List, [], ◌∷◌, ◌++◌, refl, sym, ap, ◌∙◌, subst, ⊎_elim, arith}
+-- What the trail of a seat shows, and that each answer of a step is as a queue promises, where the trail has what its call found.
 use Rattle.std.specs.Prelude.{Some, slice_get}
 use Rattle.std.specs.List.{All, Contains, sum_by}
+use Rattle.std.proofs.Common.{◌≡◌, ◌≢◌, ℕ, List, refl, sym, ap, ◌∙◌, inl, inr, ⊎_elim, arith, ◌+◌, ◌/◌, ◌%◌, ◌<◌, ◌≤◌, true, [], ◌∷◌, ◌++◌, subst}
 use Rattle.std.proofs.lemmas.Bool.{cases_lt}
 use Rattle.std.proofs.lemmas.List.{take_all}
 use Rattle.std.proofs.lemmas.List.Elements.{All-from_recursion}
-use Rattle.cursor_word.specs.Shape.{Grid, IsWithinLimits}
-use Rattle.cursor_word.specs.Cursor.{cursor_of, offset_span, place_at, unpacked}
+use Rattle.cursor_word.specs.Cursor.{packed, cursor_of, offset_span, place_at}
 use Rattle.cursor_word.specs.declared.cursor.Cursor.{Cursor}
+use Rattle.cursor_word.specs.Shape.{Grid, IsWithinLimits}
 use Rattle.cursor_word.proofs.Places.{cursor_of_place}
+use Rattle.rail.specs.Told.{Spells}
+use Rattle.rail.specs.declared.answer.Why.{Why}
 use Rattle.rail.specs.Items.{IsRising, placed, places}
 use Rattle.rail.specs.Rail.{Gains}
 use Rattle.rail.specs.declared.answer.Answer.{Answer}
+use Rattle.rail.specs.declared.answer.Why.TheVariants as why
 use Rattle.rail.specs.declared.answer.Answer.TheVariants as answer
 use Rattle.rail.specs.declared.answer.Put.TheVariants as put
 use Rattle.rail.specs.declared.answer.Take as taking
@@ -19,34 +22,62 @@ use Rattle.rail.specs.declared.answer.Take.TheVariants as take
 use Rattle.machine.specs.declared.op.After.TheVariants.{Done}
 use Rattle.machine.specs.Steps.{finds}
 use Rattle.machine.proofs.Lists.{one_le_sum}
+use Rattle.call_laws.specs.Answers.{KeepsPromises}
+use Rattle.call_laws.specs.Calls.{IsOfKind, ReadsOn}
+use Rattle.call_laws.proofs.Trails.{ShowsTrail}
+use Rattle.call_laws.proofs.Promised.{Adds, keeps_promises}
+use Rattle.put_side.specs.Causes.{first_found, second_found}
 use Rattle.put_side.specs.Counts.{makes, times}
 use Rattle.put_side.specs.Cursors.{Front, allocated_word, place, put_cursors}
 use Rattle.put_side.specs.Entries.{IsMade, IsPresent}
 use Rattle.put_side.specs.PutTable.{stage_of}
-use Rattle.put_side.proofs.Facts.{all_below, allocated_same, physical}
+use Rattle.put_side.proofs.Facts.{repacked, all_below, allocated_same, physical}
+use Rattle.put_side.proofs.PutTrails.{blocks_apart, pair_found, busy_told}
 use Rattle.put_side.proofs.SeatItems.{gains, not_among, own_item, put_gains}
-use Rattle.call_laws.specs.Answers.{KeepsPromises}
-use Rattle.call_laws.specs.Calls.{IsOfKind, ReadsOn}
-use Rattle.call_laws.proofs.Promised.{Adds, keeps_promises}
+use Rattle.put_side.proofs.Lows.{of_place}
+use Rattle.put_side.proofs.Choices.{pick_equal}
+use Rattle.put_side.proofs.Moments.{made_words_at}
+use Rattle.put_side.proofs.PutTrails as trails
 use Rattle.drop_core.specs.declared.phase.DropPhase.{DropPhase}
 use Rattle.drop_core.specs.declared.phase.DropPhase.TheVariants.{Take}
-use Rattle.drop_core.specs.declared.take_phase.DropTake.TheVariants.{Verify}
+use Rattle.drop_core.specs.declared.take_phase.DropTake.TheVariants.{HeadC, Reserve, Verify}
 use Rattle.drop_core.specs.Types.{After, MachineState, View}
+use Rattle.drop_core.specs.Steps.{table, is_put, reading}
+use Rattle.drop_core.specs.Causes.{Differ, PutPair, TakePair, shown}
 use Rattle.drop_core.specs.PutSteps.{after}
-use Rattle.drop_core.specs.Steps.{is_put, reading, table}
 use Rattle.drop_core.specs.Stage.{stage}
-use Rattle.drop_core.specs.Counts as counts
 use Rattle.drop_core.specs.Counts.{fetched, fetches}
 use Rattle.drop_core.specs.Sound.{IsSound, IsSoundAt}
 use Rattle.drop_core.specs.Moments.{EmptyAt}
-use Rattle.drop_core.proofs.PutSteps.{puts}
-use Rattle.drop_core.proofs.CallTable.{call_table, reads_in_order}
-use Rattle.drop_core.proofs.Empties.{of_place}
-use Rattle.drop_core.proofs.Loads.{knows_take, pick_equal, takes_le}
+use Rattle.drop_core.specs.Counts as counts
+use Rattle.drop_core.proofs.Recalled.{Recalls, ShowsNext, step_shows}
+use Rattle.drop_core.proofs.CallTable.{call_table, puts, reads_in_order}
+use Rattle.drop_core.proofs.Loads.{knows_take, takes_le}
 use Rattle.drop_core.proofs.Outcomes.{OverrunIn, Tells, TellsNext, step_tells}
-use Rattle.drop_core.proofs.TakeFrames.{fetched_reading}
-use Rattle.drop_core.proofs.Trails.{TrailShows, busy_told, trail_shows}
-use Rattle.drop_core.proofs.Verifies.{made_words_at}
+use Rattle.drop_core.proofs.Frames.{fetched_reading}
+
+spelled : (p : DropPhase) (old : ℕ) (c : Cursor) → shown p old ≡ c → Spells old c
+spelled (Take (HeadC turn first)) old c e = inr (ap (λ (x : Cursor). x.offset) (sym e), ap (λ (x : Cursor). x.block) e)
+spelled p old c e = inl (sym (repacked old) ∙ ap packed e)
+
+abbrev pub TrailShows : List ℕ → After → Type 0
+TrailShows trail b = trails.TrailShows table Recalls trail b
+
+pub trail_shows : ShowsTrail table TrailShows
+trail_shows = trails.trail_shows table Recalls ShowsNext record {
+  begins_put = inl refl;
+  begins_take = λ g taken. inl refl;
+  step = λ g entry steps p old recalls. step_shows g entry 0 steps p old recalls;
+  next = λ g steps this p h. h;
+  put_busy = λ g steps this reason h. pair_found shown spelled (PutPair g reason) _ reason this h;
+  take_busy = λ g steps this reason h. pair_found shown spelled (TakePair reason) _ reason this h;
+}
+
+-- cursors that differ so are two
+pub apart : (reason : Why) (p : DropPhase) → Differ reason p → first_found reason ≢ second_found reason
+apart (why.Unfinished block before later) p d e = d e
+apart (why.Moved earlier later) (Take (Reserve r)) d e = let b = ap (λ (c : Cursor). c.block) e in let o = ap (λ (c : Cursor). c.offset) e in ⊎_elim (λ l. omega arith) (λ l. omega (arith, l.1)) d
+apart (why.Moved earlier later) p d e = blocks_apart earlier later d e
 
 -- A take that answers Ok or Overrun has read all words, so its last step looks whether the block is
 -- still the same.
@@ -90,7 +121,7 @@ module _ (g : Grid) (ws : List ℕ) (vs : List View) (id : ℕ) (v : View) (limi
         → Gains v.taken (v.taken ++ placed place v.read ∷ []) (placed place v.read) × ((words : List ℕ) → Contains v.made (placed place words) → words ≡ v.read)
     whole_own place is =
         let of = knows_take g f ws vs limits s id v here (Verify at) e in
-        let has = made_words_at g f ws vs limits s at of.words of.from of.within of.made in
+        let has = made_words_at stage g f ws vs s.puts at of.words of.from of.within of.made in
         let k = ok_found g at (allocated_word g ws at.block) place is in
         let same = k.0 in
         let present : IsPresent (allocated_word g ws) at.block = omega arith in
@@ -131,14 +162,14 @@ module _ (g : Grid) (ws : List ℕ) (vs : List View) (id : ℕ) (v : View) (p : 
   adds : (a : Answer) → after g p old ≡ Done a → TrailShows trail (Done a) → Adds g true v trail a
   adds (answer.Put (put.Ok place)) is shown = put_gains stage table puts g holds.front (put_cursors g ws) vs holds.at.puts.places id v here p old place e is
   adds (answer.Put (put.Full head consumed)) is shown = absurd (tells _ is)
-  adds (answer.Put (put.Busy reason)) is shown = (refl, busy_told trail reason p shown (tells (answer.Put (put.Busy reason)) is))
+  adds (answer.Put (put.Busy reason)) is shown = (refl, busy_told trail reason shown (apart reason p (tells (answer.Put (put.Busy reason)) is)))
   adds (answer.Take (take.Ok place)) is shown =
       let q = verify_ok g p place (reads (take.Ok place) is) in
       whole_own g ws vs id v limits holds.front holds.at here q.0 (e ∙ ap Some q.1) place (at_verify _ q.0 q.1 is)
   adds (answer.Take (take.Empty place)) is shown =
       let own = beyond_own g ws vs id v limits holds.front holds.at here place (tells (answer.Take (take.Empty place)) is) in
       (refl, refl, own.0, own.1)
-  adds (answer.Take (take.Busy reason)) is shown = (refl, refl, busy_told trail reason p shown (tells (answer.Take (take.Busy reason)) is))
+  adds (answer.Take (take.Busy reason)) is shown = (refl, refl, busy_told trail reason shown (apart reason p (tells (answer.Take (take.Busy reason)) is)))
   adds (answer.Take (take.Overrun place now)) is shown =
       let q = verify_overrun g p place now (reads (take.Overrun place now) is) in
       let told = (tells (answer.Take (take.Overrun place now)) is).0 in

@@ -1,7 +1,6 @@
 -- What the steps of a call so far show, by the phase that they led to.
-use Rattle.std.proofs.Common.{◌≡◌, ℕ, suc, ◌+◌, ◌-◌, ◌/◌, ◌%◌, ◌<◌, ◌⊎◌, List, [], ◌∷◌, ◌++◌, length, refl, sym, ap, ◌∙◌, subst, inl, inr, ⊎_elim, arith}
-use Rattle.std.specs.Prelude.{Some, slice_get, if◌then◌else◌}
-use Rattle.std.proofs.lemmas.List.{length-append}
+use Rattle.std.proofs.Common.{◌≡◌, ℕ, suc, ◌+◌, ◌-◌, ◌/◌, ◌%◌, ◌<◌, List, [], ◌∷◌, ◌++◌, length, refl, sym, ap, ◌∙◌, subst, inl, inr, ⊎_elim}
+use Rattle.std.specs.Prelude.{if◌then◌else◌}
 use Rattle.std.proofs.lemmas.Option.{slice_get_within}
 use Rattle.cursor_word.specs.Shape.{Grid}
 use Rattle.cursor_word.specs.Cursor.{cursor, offset_span, packed, place_at, unpacked}
@@ -14,17 +13,21 @@ use Rattle.rail.specs.declared.answer.Why.TheVariants as why
 use Rattle.machine.specs.declared.op.After.TheVariants.{Next, Done}
 use Rattle.machine.specs.Moments.{taken_step}
 use Rattle.put_side.proofs.Facts.{repacked}
+use Rattle.put_side.specs.declared.put_phase.PutPhase.TheVariants.{OpenM}
+use Rattle.put_side.specs.PutSteps.{IsTurn, older_full}
+use Rattle.put_side.proofs.Choices.{pick_equal, pick_less, pick_same}
+use Rattle.put_side.proofs.Recalled.{BusyFound, PutRecalls, TurnRecalls, busy, fresh, get_end, kept, one_longer, put_shows, turn_kept}
 use Rattle.put_side.proofs.Sums.{by_test_le, get_front}
 use Rattle.drop_core.specs.declared.phase.DropPhase.{DropPhase}
-use Rattle.drop_core.specs.declared.phase.DropPhase.TheVariants.{HeadP, SeeA, AddA, Write, Commit, SeeM, OpenM, OpenA, RaiseP, Take}
+use Rattle.drop_core.specs.declared.phase.DropPhase.TheVariants.{Put, SeeM, Take}
 use Rattle.drop_core.specs.declared.take_phase.DropTake.{DropTake}
 use Rattle.drop_core.specs.declared.take_phase.DropTake.TheVariants.{HeadC, SeeRes, SeeCom, SeeAll, Reserve, Read, Verify, NextCom, Jump, OpenR, RaiseC}
 use Rattle.drop_core.specs.Types.{After, CallStep}
-use Rattle.drop_core.specs.PutSteps.{after, filled, older_committed}
-use Rattle.drop_core.specs.TakeSteps.{IsTurn}
+use Rattle.drop_core.specs.PutSteps.{after, older_or_not}
+use Rattle.drop_core.specs.Stage.{stage}
 use Rattle.drop_core.specs.Steps.{table}
-use Rattle.drop_core.specs.Causes.{EmptyBy, FindsAllocated, FindsAnyReserved, FindsCommitted, FindsHead, FindsReserved, FoundBy, PutPair, TakePair, first_found, second_found, shown}
-use Rattle.drop_core.proofs.Loads.{pick_equal, pick_less, pick_same}
+use Rattle.drop_core.specs.Causes.{EmptyBy, FindsAllocated, FindsAnyReserved, FindsCommitted, FindsHead, FindsReserved, FoundBy, PutPair, TakePair, shown}
+use Rattle.drop_core.proofs.CallTable.{shares}
 
 -- the last step, this one, found a committed cursor that shows that there is no entry
 pub record EmptyFound (g : Grid) (place : ℕ) (steps : List CallStep) (this : CallStep) : Type 0 where
@@ -45,20 +48,9 @@ pub record OverrunFound (g : Grid) (place : ℕ) (now : Cursor) (steps : List Ca
   pub is_last : suc last.number ≡ length steps
   pub is_this : last.step ≡ this
 
--- the last step found the second cursor of a Busy answer, and an earlier one the first
-pub record BusyFound (Pair : DropPhase → DropPhase → Type 0) (steps : List CallStep) (reason : Why) (this : CallStep) : Type 0 where
-  pub earlier : FoundBy (λ p. Unit {0}) (first_found reason) steps
-  pub later : FoundBy (λ q. Pair earlier.step.phase q) (second_found reason) steps
-  pub in_order : earlier.number < later.number
-  pub is_last : suc later.number ≡ length steps
-  pub is_this : later.step ≡ this
-
-abbrev pub TurnRecalls : (ℕ → DropPhase → Type 0) → ℕ → Cursor → List CallStep → Type 0
-TurnRecalls Is turn first steps = (turn ≡ 1) ⊎ ((turn ≡ 2) × FoundBy (Is 1) first steps)
-
 abbrev pub TakeRecalls : List CallStep → DropTake → Type 0
-TakeRecalls steps (HeadC turn first) = TurnRecalls FindsReserved turn first steps
-TakeRecalls steps (SeeRes turn first head) = TurnRecalls FindsReserved turn first steps × FoundBy (FindsHead turn) (cursor head 0) steps
+TakeRecalls steps (HeadC turn first) = TurnRecalls shown FindsReserved turn first steps
+TakeRecalls steps (SeeRes turn first head) = TurnRecalls shown FindsReserved turn first steps × FoundBy (FindsHead turn) (cursor head 0) steps
 TakeRecalls steps (SeeCom turn r) = IsTurn turn × FoundBy (FindsReserved turn) r steps
 TakeRecalls steps (SeeAll r m) = FoundBy FindsAnyReserved r steps × FoundBy (FindsCommitted r) m steps
 TakeRecalls steps (Reserve r) = FoundBy FindsAnyReserved r steps
@@ -70,15 +62,8 @@ TakeRecalls steps (OpenR from to) = FoundBy (FindsReserved 1) from steps
 TakeRecalls steps (RaiseC from to) = FoundBy (FindsReserved 1) from steps
 
 abbrev pub Recalls : List CallStep → DropPhase → Type 0
-Recalls steps (HeadP turn first) = TurnRecalls FindsAllocated turn first steps
-Recalls steps (SeeA turn first head) = TurnRecalls FindsAllocated turn first steps
-Recalls steps (AddA turn first head) = TurnRecalls FindsAllocated turn first steps
-Recalls steps (Write at next) = Unit {0}
-Recalls steps (Commit at) = Unit {0}
+Recalls steps (Put q) = PutRecalls stage shown steps q
 Recalls steps (SeeM full) = FoundBy (FindsAllocated 1) full steps
-Recalls steps (OpenM full) = FoundBy (FindsAllocated 1) full steps
-Recalls steps (OpenA full) = FoundBy (FindsAllocated 1) full steps
-Recalls steps (RaiseP full) = FoundBy (FindsAllocated 1) full steps
 Recalls steps (Take q) = TakeRecalls steps q
 
 -- what they show with one more step, by what follows it
@@ -86,18 +71,11 @@ abbrev pub ShowsNext : Grid → List CallStep → CallStep → After → Type 0
 ShowsNext g steps this (Next p) = Recalls (steps ++ this ∷ []) p
 ShowsNext g steps this (Done (answer.Put (put.Ok p))) = Unit {0}
 ShowsNext g steps this (Done (answer.Put (put.Full head x))) = ⊥
-ShowsNext g steps this (Done (answer.Put (put.Busy reason))) = BusyFound (PutPair g reason) (steps ++ this ∷ []) reason this
+ShowsNext g steps this (Done (answer.Put (put.Busy reason))) = BusyFound shown (PutPair g reason) (steps ++ this ∷ []) reason this
 ShowsNext g steps this (Done (answer.Take (take.Ok p))) = Unit {0}
 ShowsNext g steps this (Done (answer.Take (take.Empty p))) = EmptyFound g p (steps ++ this ∷ []) this
-ShowsNext g steps this (Done (answer.Take (take.Busy reason))) = BusyFound (TakePair reason) (steps ++ this ∷ []) reason this
+ShowsNext g steps this (Done (answer.Take (take.Busy reason))) = BusyFound shown (TakePair reason) (steps ++ this ∷ []) reason this
 ShowsNext g steps this (Done (answer.Take (take.Overrun p now))) = OverrunFound g p now (steps ++ this ∷ []) this
-
-get_end : (xs : List CallStep) (x : CallStep) → slice_get (xs ++ x ∷ []) (length xs) ≡ Some x
-get_end [] x = refl
-get_end (z ∷ zs) x = get_end zs x
-
-one_longer : (xs : List CallStep) (x : CallStep) → suc (length xs) ≡ length (xs ++ x ∷ [])
-one_longer xs x = let n = length-append xs (x ∷ []) in omega arith
 
 -- a reserved cursor was found in its word
 reserved_shown : (p : DropPhase) (old turn : ℕ) → FindsReserved turn p → shown p old ≡ unpacked old
@@ -111,27 +89,6 @@ found_again r steps old e f =
     ap unpacked (e ∙ sym (ap packed is) ∙ repacked f.step.found) ∙ is
 
 module _ (steps : List CallStep) (this : CallStep) where
-  abbrev kept : (Is : DropPhase → Type 0) (c : Cursor) → FoundBy Is c steps → FoundBy Is c (steps ++ this ∷ [])
-  kept Is c f = record { number = f.number; step = f.step; at = get_front steps this f.number f.step f.at; kind = f.kind; found = f.found }
-
-  turn_kept : (Is : ℕ → DropPhase → Type 0) (turn : ℕ) (first : Cursor) → TurnRecalls Is turn first steps → TurnRecalls Is turn first (steps ++ this ∷ [])
-  turn_kept Is turn first (inl e) = inl e
-  turn_kept Is turn first (inr f) = inr (f.0, kept (Is 1) first f.1)
-
-  abbrev fresh : (Is : DropPhase → Type 0) (c : Cursor) → Is this.phase → shown this.phase this.found ≡ c → FoundBy Is c (steps ++ this ∷ [])
-  fresh Is c is shows = record { number = length steps; step = this; at = get_end steps this; kind = is; found = shows }
-
-  -- this step found the second cursor of a Busy answer, and an earlier one the first
-  busy : (Pair : DropPhase → DropPhase → Type 0) (Is : DropPhase → Type 0) (reason : Why) → FoundBy Is (first_found reason) steps → ((q : DropPhase) → Is q → Pair q this.phase)
-      → shown this.phase this.found ≡ second_found reason → BusyFound Pair (steps ++ this ∷ []) reason this
-  busy Pair Is reason f pair second = record {
-    earlier = record { number = f.number; step = f.step; at = get_front steps this f.number f.step f.at; kind = tt; found = f.found };
-    later = record { number = length steps; step = this; at = get_end steps this; kind = pair f.step.phase f.kind; found = second };
-    in_order = slice_get_within steps f.number f.step f.at;
-    is_last = one_longer steps this;
-    is_this = refl;
-  }
-
   -- this step found a committed cursor that shows that there is no entry
   empty : (g : Grid) (place : ℕ) (Is : DropPhase → Type 0) (c : Cursor) → FoundBy Is c steps → ((q : DropPhase) → Is q → FindsAnyReserved q) → EmptyBy g place c (unpacked this.found) this.phase
       → shown this.phase this.found ≡ unpacked this.found → EmptyFound g place (steps ++ this ∷ []) this
@@ -144,7 +101,7 @@ module _ (steps : List CallStep) (this : CallStep) where
     is_this = refl;
   }
 
-turn_of : (turn : ℕ) (first : Cursor) (steps : List CallStep) → TurnRecalls FindsReserved turn first steps → IsTurn turn
+turn_of : (turn : ℕ) (first : Cursor) (steps : List CallStep) → TurnRecalls shown FindsReserved turn first steps → IsTurn turn
 turn_of turn first steps (inl e) = inl e
 turn_of turn first steps (inr f) = inr f.0
 
@@ -152,51 +109,29 @@ module _ (g : Grid) (entry : List ℕ) (n : ℕ) (steps : List CallStep) where
   abbrev now : DropPhase → ℕ → CallStep
   now p old = taken_step table g entry n p old
 
-  -- a block that was found filled
-  filled_shows : (p : DropPhase) (turn old : ℕ) (first : Cursor) → TurnRecalls FindsAllocated turn first steps → ((z : ℕ) → turn ≡ z → FindsAllocated z p) → shown p old ≡ unpacked old
-      → (let this : CallStep = record { position = n; phase = p; found = old } in ShowsNext g steps this (filled turn first (unpacked old)))
-  filled_shows p turn old first f kind is =
-      let this : CallStep = record { position = n; phase = p; found = old } in
-      pick_equal (ShowsNext g steps this) turn 1 _ _
-      (λ e. fresh steps this (FindsAllocated 1) (unpacked old) (kind 1 e) is)
-      (λ ne. ⊎_elim (λ e. absurd (ne e)) (λ t. busy steps this (PutPair g (why.Moved first (unpacked old))) (FindsAllocated 1) (why.Moved first (unpacked old)) t.1 (λ q k. (k, kind 2 t.0)) is) f)
-
   -- each step keeps what the steps show
-  put_shows : (p : DropPhase) (old : ℕ) → Recalls steps p → ((q : DropTake) → p ≡ Take q → ShowsNext g steps (now p old) (after g p old)) → ShowsNext g steps (now p old) (after g p old)
-  put_shows (HeadP turn first) old f takes = turn_kept steps (now (HeadP turn first) old) FindsAllocated turn first f
-  put_shows (SeeA turn first head) old f takes =
-      let this : CallStep = now (SeeA turn first head) old in
-      pick_less (ShowsNext g steps this) (old % offset_span) g.size _ _ (λ l. turn_kept steps this FindsAllocated turn first f) (λ l. filled_shows (SeeA turn first head) turn old first f (λ z e. e) refl)
-  put_shows (AddA turn first head) old f takes =
-      let this : CallStep = now (AddA turn first head) old in
-      pick_less (ShowsNext g steps this) (old % offset_span) g.size _ _ (λ l. tt) (λ l. filled_shows (AddA turn first head) turn old first f (λ z e. e) refl)
-  put_shows (Write at next) old f takes = pick_less (ShowsNext g steps (now (Write at next) old)) (next + 1) g.width _ _ (λ l. tt) (λ l. tt)
-  put_shows (Commit at) old f takes = tt
-  put_shows (SeeM full) old f takes =
+  find_older : (full : Cursor) (old : ℕ) → FoundBy (FindsAllocated 1) full steps → ShowsNext g steps (now (SeeM full) old) (older_or_not g full old)
+  find_older full old f =
       let this : CallStep = now (SeeM full) old in
       let reason : Why = why.Unfinished (full.block + 1 - g.blocks) full (unpacked old) in
-      by_test_le (older_committed g full.block) old (λ c. ShowsNext g steps this (if c then Next (OpenM full) else Done (answer.Put (put.Busy reason))))
-      (λ l. kept steps this (FindsAllocated 1) full f)
-      (λ l. busy steps this (PutPair g reason) (FindsAllocated 1) reason f (λ p k. (k, refl, refl)) refl)
-  put_shows (OpenM full) old f takes = kept steps (now (OpenM full) old) (FindsAllocated 1) full f
-  put_shows (OpenA full) old f takes = kept steps (now (OpenA full) old) (FindsAllocated 1) full f
-  put_shows (RaiseP full) old f takes = inr (refl, kept steps (now (RaiseP full) old) (FindsAllocated 1) full f)
-  put_shows (Take q) old f takes = takes q refl
+      by_test_le (older_full g full.block) old (λ c. ShowsNext g steps this (if c then Next (Put (OpenM full)) else Done (answer.Put (put.Busy reason))))
+      (λ l. kept shown steps this (FindsAllocated 1) full f)
+      (λ l. busy shown steps this (PutPair g reason) (FindsAllocated 1) reason f (λ p k. (k, refl, refl)) refl)
 
   take_shows : (q : DropTake) (old : ℕ) → TakeRecalls steps q → ShowsNext g steps (now (Take q) old) (after g (Take q) old)
   take_shows (HeadC turn first) old f =
       let this : CallStep = now (Take (HeadC turn first)) old in
-      (turn_kept steps this FindsReserved turn first f, fresh steps this (FindsHead turn) (cursor old 0) refl refl)
+      (turn_kept shown steps this FindsReserved turn first f, fresh shown steps this (FindsHead turn) (cursor old 0) refl refl)
   take_shows (SeeRes turn first head) old f =
       let this : CallStep = now (Take (SeeRes turn first head)) old in
       let y : Cursor = unpacked old in
       pick_equal (ShowsNext g steps this) (old / offset_span) head _ _
       (λ b. pick_less (ShowsNext g steps this) (old % offset_span) g.size _ _
-      (λ l. (turn_of turn first steps f.0, fresh steps this (FindsReserved turn) y refl refl))
+      (λ l. (turn_of turn first steps f.0, fresh shown steps this (FindsReserved turn) y refl refl))
       (λ l. pick_equal (ShowsNext g steps this) turn 1 _ _
-      (λ e. fresh steps this (FindsReserved 1) y e refl)
-      (λ ne. ⊎_elim (λ e. absurd (ne e)) (λ t. busy steps this (TakePair (why.Moved first y)) (FindsReserved 1) (why.Moved first y) t.1 (λ p k. inr (t.0, k)) refl) f.0)))
-      (λ ne. busy steps this (TakePair (why.Moved (cursor head 0) y)) (FindsHead turn) (why.Moved (cursor head 0) y) f.1 (λ p k. inl k) refl)
+      (λ e. fresh shown steps this (FindsReserved 1) y e refl)
+      (λ ne. ⊎_elim (λ e. absurd (ne e)) (λ t. busy shown steps this (TakePair (why.Moved first y)) (FindsReserved 1) (why.Moved first y) t.1 (λ p k. inr (t.0, k)) refl) f.0)))
+      (λ ne. busy shown steps this (TakePair (why.Moved (cursor head 0) y)) (FindsHead turn) (why.Moved (cursor head 0) y) f.1 (λ p k. inl k) refl)
   take_shows (SeeCom turn r) old f =
       let this : CallStep = now (Take (SeeCom turn r)) old in
       let y : Cursor = unpacked old in
@@ -205,28 +140,28 @@ module _ (g : Grid) (entry : List ℕ) (n : ℕ) (steps : List CallStep) where
       (λ e. empty steps this g (place_at g r) FindsAnyReserved r any (λ p k. k) (refl, found_again r steps old e any, refl) refl)
       (λ ne. pick_less (ShowsNext g steps this) r.block (old / offset_span) _ _
       (λ l. pick_equal (ShowsNext g steps this) turn 1 _ _
-      (λ one. subst (λ (z : ℕ). FoundBy (FindsReserved z) r (steps ++ this ∷ [])) one (kept steps this (FindsReserved turn) r f.1))
-      (λ two. ⊎_elim (λ e. absurd (two e)) (λ t. busy steps this (TakePair (why.Moved r y)) (FindsReserved turn) (why.Moved r y) f.1 (λ p k. (t, subst (λ (z : ℕ). FindsReserved z p) t k)) refl) f.0))
+      (λ one. subst (λ (z : ℕ). FoundBy (FindsReserved z) r (steps ++ this ∷ [])) one (kept shown steps this (FindsReserved turn) r f.1))
+      (λ two. ⊎_elim (λ e. absurd (two e)) (λ t. busy shown steps this (TakePair (why.Moved r y)) (FindsReserved turn) (why.Moved r y) f.1 (λ p k. (t, subst (λ (z : ℕ). FindsReserved z p) t k)) refl) f.0))
       (λ l. pick_equal (ShowsNext g steps this) (old % offset_span) g.size _ _
-      (λ e. kept steps this FindsAnyReserved r any)
-      (λ e. (kept steps this FindsAnyReserved r any, fresh steps this (FindsCommitted r) y refl refl))))
+      (λ e. kept shown steps this FindsAnyReserved r any)
+      (λ e. (kept shown steps this FindsAnyReserved r any, fresh shown steps this (FindsCommitted r) y refl refl))))
   take_shows (SeeAll r m) old f =
       let this : CallStep = now (Take (SeeAll r m)) old in
       let y : Cursor = unpacked old in
       pick_same (ShowsNext g steps this) old m _ _
-      (λ e. kept steps this FindsAnyReserved r f.0)
-      (pick_equal (ShowsNext g steps this) (old / offset_span) m.block _ _
-      (λ e. busy steps this (TakePair (why.Unfinished m.block m y)) (FindsCommitted r) (why.Unfinished m.block m y) f.1 (λ p k. (k, refl)) refl)
-      (λ e. busy steps this (TakePair (why.Moved m y)) (FindsCommitted r) (why.Moved m y) f.1 (λ p k. k) refl))
+      (λ e. kept shown steps this FindsAnyReserved r f.0)
+      (λ n. pick_equal (ShowsNext g steps this) (old / offset_span) m.block _ _
+      (λ e. busy shown steps this (TakePair (why.Unfinished m.block m y)) (FindsCommitted r) (why.Unfinished m.block m y) f.1 (λ p k. (k, refl)) refl)
+      (λ e. busy shown steps this (TakePair (why.Moved m y)) (FindsCommitted r) (why.Moved m y) f.1 (λ p k. k) refl))
   take_shows (Reserve r) old f =
       let this : CallStep = now (Take (Reserve r)) old in
       let y : Cursor = unpacked old in
       pick_equal (ShowsNext g steps this) old (packed r) _ _
-      (λ e. fresh steps this (λ p. p ≡ Take (Reserve r)) r refl (found_again r steps old e f))
-      (λ ne. busy steps this (TakePair (why.Moved r y)) FindsAnyReserved (why.Moved r y) f (λ p k. k) refl)
+      (λ e. fresh shown steps this (λ p. p ≡ Take (Reserve r)) r refl (found_again r steps old e f))
+      (λ ne. busy shown steps this (TakePair (why.Moved r y)) FindsAnyReserved (why.Moved r y) f (λ p k. k) refl)
   take_shows (Read at next) old f =
       let this : CallStep = now (Take (Read at next)) old in
-      let keeps : FoundBy (λ p. p ≡ Take (Reserve at)) at (steps ++ this ∷ []) = kept steps this (λ p. p ≡ Take (Reserve at)) at f in
+      let keeps : FoundBy (λ p. p ≡ Take (Reserve at)) at (steps ++ this ∷ []) = kept shown steps this (λ p. p ≡ Take (Reserve at)) at f in
       pick_less (ShowsNext g steps this) (next + 1) g.width _ _ (λ l. keeps) (λ l. keeps)
   take_shows (Verify at) old f =
       let this : CallStep = now (Take (Verify at)) old in
@@ -234,8 +169,8 @@ module _ (g : Grid) (entry : List ℕ) (n : ℕ) (steps : List CallStep) where
       (λ ne. record {
         at = at;
         is_place = refl;
-        reserves = kept steps this (λ p. p ≡ Take (Reserve at)) at f;
-        last = fresh steps this (λ p. p ≡ Take (Verify at)) (unpacked old) refl refl;
+        reserves = kept shown steps this (λ p. p ≡ Take (Reserve at)) at f;
+        last = fresh shown steps this (λ p. p ≡ Take (Verify at)) (unpacked old) refl refl;
         in_order = slice_get_within steps f.number f.step f.at;
         is_last = one_longer steps this;
         is_this = refl;
@@ -244,10 +179,13 @@ module _ (g : Grid) (entry : List ℕ) (n : ℕ) (steps : List CallStep) where
       let this : CallStep = now (Take (NextCom sp)) old in
       pick_less (ShowsNext g steps this) (old / offset_span) (sp.block + 1) _ _
       (λ l. empty steps this g _ (FindsReserved 1) sp f (λ p k. (1, k)) (refl, l, refl) refl)
-      (λ l. kept steps this (FindsReserved 1) sp f)
-  take_shows (Jump from) old f = kept steps (now (Take (Jump from)) old) (FindsReserved 1) from f
-  take_shows (OpenR from to) old f = kept steps (now (Take (OpenR from to)) old) (FindsReserved 1) from f
-  take_shows (RaiseC from to) old f = inr (refl, kept steps (now (Take (RaiseC from to)) old) (FindsReserved 1) from f)
+      (λ l. kept shown steps this (FindsReserved 1) sp f)
+  take_shows (Jump from) old f = kept shown steps (now (Take (Jump from)) old) (FindsReserved 1) from f
+  take_shows (OpenR from to) old f = kept shown steps (now (Take (OpenR from to)) old) (FindsReserved 1) from f
+  take_shows (RaiseC from to) old f = inr (refl, kept shown steps (now (Take (RaiseC from to)) old) (FindsReserved 1) from f)
 
   pub step_shows : (p : DropPhase) (old : ℕ) → Recalls steps p → ShowsNext g steps (now p old) (after g p old)
-  step_shows p old f = put_shows p old f (λ q e. subst (λ (z : DropPhase). Recalls steps z → ShowsNext g steps (now z old) (after g z old)) (sym e) (take_shows q old) f)
+  step_shows (Put q) old f =
+      put_shows table stage Put SeeM shares shown (λ r word. refl) g entry n steps q old (ShowsNext g steps (now (Put q) old)) (record { next = λ r h. h; fills = λ full h. h; ok = λ place. tt; moved = λ earlier later h. h }) f
+  step_shows (SeeM full) old f = find_older full old f
+  step_shows (Take q) old f = take_shows q old f

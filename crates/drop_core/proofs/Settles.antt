@@ -1,11 +1,11 @@
 -- Where all seats are at rest, the accepted items of the blocks that aren't reused stand in the words.
-use Rattle.std.proofs.Common.{◌≡◌, ℕ, zero, suc, ◌+◌, ◌-◌, ◌*◌, ◌/◌, ◌<◌, ◌≤◌, ◌⊎◌, List, [], ◌∷◌, ◌++◌, Bool, true, false, cond, length, get_or, refl, sym, ap, ◌∙◌, ⊎_elim, arith, append-nil}
+use Rattle.std.proofs.Common.{◌≡◌, ℕ, ◌+◌, ◌-◌, ◌*◌, ◌/◌, ◌<◌, ◌≤◌, ◌⊎◌, List, [], ◌++◌, Bool, true, false, length, get_or, refl, sym, ap, ◌∙◌, ⊎_elim, arith, append-nil}
 use Rattle.std.specs.Prelude.{Option, Contains, filter, map, nat_le, ◌&&◌}
 use Rattle.std.specs.List.{range_with_len, sum_by}
 use Rattle.std.proofs.lemmas.Bool.{cases_lt}
 use Rattle.std.proofs.lemmas.Bool.Decides.{nat_tests}
 use Rattle.std.proofs.lemmas.List.{same_lists}
-use Rattle.std.proofs.lemmas.List.FromFn.{filter_of_map_range_with_len_more, get_or-map-range_with_len, length-map-range_with_len}
+use Rattle.std.proofs.lemmas.List.FromFn.{get_or-map-range_with_len, length-map-range_with_len}
 use Rattle.std.proofs.lemmas.Nat.{div-add-mod', mod_below}
 use Rattle.std.proofs.lemmas.Option.{get_or_from_slice_get, slice_get-get_or}
 use Rattle.std.proofs.Math.Nat.{mul-le-mul_right}
@@ -16,24 +16,25 @@ use Rattle.rail.specs.Items.{placed, places}
 use Rattle.rail.specs.Outcome.{is_left, numbers_below, DropOutcome}
 use Rattle.machine.specs.Invariant.{made_total}
 use Rattle.machine.specs.Steps.{AllRest, MachineState}
-use Rattle.put_side.specs.Cursors.{allocated_word, place, Front, put_cursors}
+use Rattle.put_side.specs.Cursors.{place, Front, put_cursors}
 use Rattle.put_side.specs.Counts.{times}
 use Rattle.put_side.specs.PutTable.{stage_in, stage_of}
 use Rattle.put_side.proofs.Facts.{allocated_to, place_next}
 use Rattle.put_side.proofs.Stores.{made_block}
+use Rattle.put_side.proofs.Moments.{still_present}
 use Rattle.drop_core.specs.declared.phase.DropPhase.{DropPhase}
 use Rattle.drop_core.specs.Types.{View}
 use Rattle.drop_core.specs.Stage.{stage}
 use Rattle.drop_core.specs.Counts.{fetches, reading}
 use Rattle.drop_core.specs.Gathered.{IsSettled, left_in}
 use Rattle.drop_core.specs.Sound.{IsSound, IsSoundAt}
-use Rattle.put_side.specs.Entries.{IsPresent}
 use Rattle.machine.specs.Entries.{entry_at}
 use Rattle.put_side.specs.Gathered.{all_made, all_taken}
 use Rattle.put_side.proofs.Orders.{in_order, order_length, stands_at, stands_from}
-use Rattle.drop_core.proofs.Lows.{low_at}
+use Rattle.put_side.proofs.Filters.{filter_like}
+use Rattle.put_side.proofs.Lows.{low_at}
 use Rattle.put_side.proofs.Gathers.{StandsIn, distinct, has_in, stands_in, times_all}
-use Rattle.put_side.proofs.Rests.{NonePuts, claims_all, claims_number, last_entered, last_open, made_at}
+use Rattle.put_side.proofs.Rests.{NonePuts, claims_all, claims_number, last_entered, made_at}
 use Rattle.put_side.proofs.Sums.{sum_alike}
 use Rattle.rail.proofs.Newest.{keeps_newest}
 
@@ -44,20 +45,6 @@ left_from false b e = e
 
 le_of : (a b : ℕ) → nat_le a b ≡ true → a ≤ b
 le_of a b e = grind (arith, nat_tests)
-
--- two lists of the first n items, alike where they are left
-filter_like : (p : Placed → Bool) (f h : ℕ → List ℕ) (n : ℕ) → ((q : ℕ) (x y : List ℕ) → p (placed q x) ≡ p (placed q y)) → ((q : ℕ) → q < n → p (placed q (f q)) ≡ true → f q ≡ h q)
-    → filter p (map (λ (q : ℕ). placed q (f q)) (range_with_len 0 n)) ≡ filter p (map (λ (q : ℕ). placed q (h q)) (range_with_len 0 n))
-filter_like p f h zero same e = refl
-filter_like p f h (suc n) same e =
-    let r = filter_like p f h n same (λ q l t. e q (omega arith) t) in
-    let s : suc n ≡ n + 1 = omega arith in
-    let at : (b : Bool) → p (placed n (f n)) ≡ b → cond b (placed n (f n) ∷ []) [] ≡ cond b (placed n (h n) ∷ []) [] =
-    λ b. elim b as (λ b. p (placed n (f n)) ≡ b → cond b (placed n (f n) ∷ []) [] ≡ cond b (placed n (h n) ∷ []) []) [ true ↦ λ t. ap (λ (l : List ℕ). placed n l ∷ []) (e n (omega arith) t) | false ↦ λ t. refl ] in
-    ap (λ (k : ℕ). filter p (map (λ (q : ℕ). placed q (f q)) (range_with_len 0 k))) s ∙ filter_of_map_range_with_len_more p (λ (q : ℕ). placed q (f q)) 0 n n (omega arith)
-    ∙ ap (λ (l : List Placed). l ++ cond (p (placed n (f n))) (placed n (f n) ∷ []) []) r
-    ∙ ap (λ (l : List Placed). filter p (map (λ (q : ℕ). placed q (h q)) (range_with_len 0 n)) ++ l) (at (p (placed n (f n))) refl ∙ ap (λ (b : Bool). cond b (placed n (h n) ∷ []) []) (same n (f n) (h n)))
-    ∙ sym (filter_of_map_range_with_len_more p (λ (q : ℕ). placed q (h q)) 0 n n (omega arith)) ∙ ap (λ (k : ℕ). filter p (map (λ (q : ℕ). placed q (h q)) (range_with_len 0 k))) (sym s)
 
 -- within a list the default is of no matter
 swap_default : (xs : List Placed) (i : ℕ) (d e : Placed) → i < length xs → get_or xs i e ≡ get_or xs i d
@@ -94,9 +81,7 @@ module _ (g : Grid) (f : Front) (ws : List ℕ) (vs : List View) (limits : IsWit
       let edge = allocated_to w in
       let near = low_is g f.next f.last limits w.from (let z = place_next g f.last w.from in omega arith) (last_entered (stage_of stage) g f vs none_puts (put_cursors g ws) s.manned) x.place from below in
       let to : k ≤ f.last = made_block (stage_of stage) g limits f ws vs s.puts.places m.seat m.view m.number x m.at m.there in
-      let opened = last_open (stage_of stage) g f vs none_puts (put_cursors g ws) s.manned in
-      let present : IsPresent (allocated_word g ws) k = ⊎_elim (λ l. let z = w.full k l near in omega (arith, z.0)) (λ l. let e : k ≡ f.last = omega arith in let z = ap (allocated_word g ws) e in omega arith) (cases_lt k f.last) in
-      made_at (stage_of stage) g ws m.view m.number x (s.puts.entries m.seat m.view m.at) m.there present
+      made_at (stage_of stage) g ws m.view m.number x (s.puts.entries m.seat m.view m.at) m.there (still_present stage g f ws vs s.puts limits k to near)
 
   -- at rest nothing is being read
   pub takes_all : (p : ℕ) → sum_by (fetches g p) vs ≡ times p (places (all_taken vs))

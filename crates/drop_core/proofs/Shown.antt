@@ -1,5 +1,5 @@
 -- What the steps of a call show of its answer, along a schedule.
-use Rattle.std.proofs.Common.{◌≡◌, ℕ, suc, ◌<◌, List, [], ◌∷◌, ◌++◌, length, refl, sym, ap, subst, inl, ⊎_elim}
+use Rattle.std.proofs.Common.{◌≡◌, ℕ, suc, ◌<◌, List, length, refl, sym, ap, subst, inl}
 use Rattle.std.specs.Prelude.{Some}
 use Rattle.std.specs.List.{AllByRecursion}
 use Rattle.cursor_word.specs.Shape.{Grid, IsWithinLimits}
@@ -11,67 +11,49 @@ use Rattle.rail.specs.declared.answer.Put.TheVariants as put
 use Rattle.rail.specs.declared.answer.Take.TheVariants as take
 use Rattle.rail.specs.declared.answer.Why.{Why}
 use Rattle.machine.specs.declared.event.Event.{Event}
-use Rattle.machine.specs.declared.op.After.TheVariants.{Next, Done}
 use Rattle.machine.specs.Steps.{Suits, finds}
-use Rattle.machine.specs.Moments.{EndsAt, moment, seat_at, steps_of, taken_step}
-use Rattle.machine.proofs.Schedules as schedules
-use Rattle.machine.proofs.Schedules.{IsRecalled, LastStep, Remembers, last_step, remembered, stood_or_begins}
+use Rattle.machine.specs.Moments.{EndsAt, moment, seat_at, steps_of}
+use Rattle.machine.proofs.Schedules.{IsRecalled, LastStep, Remembers, last_step, remembered}
 use Rattle.drop_core.specs.declared.phase.DropPhase.{DropPhase}
 use Rattle.drop_core.specs.Types.{After, CallStep, View}
-use Rattle.drop_core.specs.PutSteps.{after}
 use Rattle.drop_core.specs.Steps.{table}
 use Rattle.drop_core.specs.Moments.{EmptyAt}
-use Rattle.drop_core.specs.Causes.{BusyShown, Differ, EmptyShown, OverrunShown, PutPair, TakePair}
+use Rattle.drop_core.specs.Causes.{BusyShown, Differ, EmptyShown, OverrunShown, PutPair, TakePair, shown}
 use Rattle.drop_core.specs.Sound.{IsSound}
-use Rattle.drop_core.proofs.Outcomes.{OverrunIn, Tells, TellsNext, step_tells}
-use Rattle.drop_core.proofs.Recalled.{BusyFound, Recalls, ShowsNext, step_shows}
+use Rattle.drop_core.proofs.CallTable.{goes_on}
+use Rattle.drop_core.proofs.Outcomes.{OverrunIn, TellsNext, step_tells}
+use Rattle.put_side.proofs.ShownSteps as steps
+use Rattle.put_side.proofs.ShownSteps.{ShownAt, StepsTell, busy_ended}
+use Rattle.drop_core.proofs.Recalled.{Recalls, ShowsNext, step_shows}
 use Rattle.drop_core.proofs.Reached.{moment_sound}
 
--- what the steps of a call show with the one that answers, and what that one tells
-pub record Shows (g : Grid) (events : List Event) (steps : List CallStep) (this : CallStep) (a : Answer) : Type 0 where
-  pub shows : ShowsNext g steps this (Done a)
-  pub tells : Tells g (moment table g events this.position) this.phase a
-
--- what the steps found, with what the last one tells
-busy_shown : (Pair : DropPhase → DropPhase → Type 0) (steps : List CallStep) (last : CallStep) (reason : Why) → BusyFound Pair steps reason last → Differ reason last.phase → BusyShown Pair steps reason
-busy_shown Pair steps last reason f d = record {
-  earlier = f.earlier;
-  later = f.later;
-  in_order = f.in_order;
-  is_last = f.is_last;
-  differ = subst (λ (t : CallStep). Differ reason t.phase) (sym f.is_this) d;
-}
-
 module _ (g : Grid) (events : List Event) (limits : IsWithinLimits g) (suits : AllByRecursion (Suits table g) events) (few : length events < most_puts g) where
-  abbrev Next_is : List CallStep → CallStep → After → Type 0
-  Next_is steps this b = schedules.ShowsNext table g events Recalls (Shows g events) steps this b
+  abbrev TellsAt : ℕ → View → DropPhase → After → Type 0
+  TellsAt n v p b = TellsNext g (moment table g events n) p b
 
-  with_told : (steps : List CallStep) (this : CallStep) (b : After) → ShowsNext g steps this b → TellsNext g (moment table g events this.position) this.phase b → Next_is steps this b
-  with_told steps this (Next p) s t = s
-  with_told steps this (Done a) s t = record { shows = s; tells = t }
-
-  recalled : IsRecalled table g events Recalls (Shows g events)
-  recalled = record {
+  told : StepsTell table g events Recalls (ShowsNext g) TellsAt
+  told = record {
     put = inl refl;
-    take = λ v. inl refl;
-    step = λ n id v p steps at e r.
+    take = λ taken. inl refl;
+    next = λ steps this p h. h;
+    first = λ n entry steps p old is r. step_shows g entry n steps p old r;
+    stood = λ n id v p steps here e r.
         let w = moment table g events n in
-        let shows : (old : ℕ) → ShowsNext g steps (taken_step table g v.entry n p old) (after g p old) = λ old. step_shows g v.entry n steps p old r in
-        ⊎_elim
-        (λ here. let s : IsSound g w.words w.views = moment_sound g events limits suits few n in
-        let old : ℕ = finds table g w.words v p in
-        with_told steps (taken_step table g v.entry n p old) (after g p old) (shows old) (step_tells g s.front w.words w.views limits s.at id v here p e))
-        (λ begins. ⊎_elim
-        (λ q. subst (λ (z : DropPhase). (old : ℕ) → ShowsNext g steps (taken_step table g v.entry n z old) (after g z old) → Next_is steps (taken_step table g v.entry n z old) (after g z old)) q (λ old x. x) (finds table g w.words v p) (shows (finds table g w.words v p)))
-        (λ q. subst (λ (z : DropPhase). (old : ℕ) → ShowsNext g steps (taken_step table g v.entry n z old) (after g z old) → Next_is steps (taken_step table g v.entry n z old) (after g z old)) q (λ old x. x) (finds table g w.words v p) (shows (finds table g w.words v p))) begins)
-        (stood_or_begins table g v p events n id at e);
+        let s : IsSound g w.words w.views = moment_sound g events limits suits few n in
+        (step_shows g v.entry n steps p (finds table g w.words v p) r, step_tells g s.front w.words w.views limits s.at id v here p e);
   }
 
-  pub trail_is : (n id : ℕ) (v : View) → seat_at table g events n id ≡ Some v → Remembers table g events Recalls (Shows g events) (steps_of table g events id n) v
-  trail_is n id v at = remembered table g events Recalls (Shows g events) recalled n id v at
+  abbrev Ends : List CallStep → CallStep → Answer → Type 0
+  Ends = ShownAt table g events Recalls (ShowsNext g) TellsAt
 
-  last : (i seat : ℕ) (a : Answer) → EndsAt table g events i seat a → LastStep table g events Recalls (Shows g events) recalled i seat a
-  last i seat a x = last_step table g events Recalls (Shows g events) recalled i seat a x
+  abbrev recalled : IsRecalled table g events Recalls Ends
+  recalled = steps.recalled table g events Recalls (ShowsNext g) TellsAt goes_on told
+
+  pub trail_is : (n id : ℕ) (v : View) → seat_at table g events n id ≡ Some v → Remembers table g events Recalls Ends (steps_of table g events id n) v
+  trail_is n id v at = remembered table g events Recalls Ends recalled n id v at
+
+  last : (i seat : ℕ) (a : Answer) → EndsAt table g events i seat a → LastStep table g events Recalls Ends recalled i seat a
+  last i seat a x = last_step table g events Recalls Ends recalled i seat a x
 
   -- the laws of each answer
   pub never_full : (i seat head : ℕ) (consumed : Cursor) → EndsAt table g events i seat (answer.Put (put.Full head consumed)) → ⊥
@@ -110,7 +92,7 @@ module _ (g : Grid) (events : List Event) (limits : IsWithinLimits g) (suits : A
       }
 
   pub put_busy : (i seat : ℕ) (reason : Why) → EndsAt table g events i seat (answer.Put (put.Busy reason)) → BusyShown (PutPair g reason) (steps_of table g events seat (suc i)) reason
-  put_busy i seat reason x = let l = last i seat _ x in subst (λ (steps : List CallStep). BusyShown (PutPair g reason) steps reason) (sym l.whole) (busy_shown (PutPair g reason) (l.before ++ l.last ∷ []) l.last reason l.shows.shows l.shows.tells)
+  put_busy i seat reason x = let l = last i seat _ x in busy_ended table g events Recalls (ShowsNext g) TellsAt goes_on told shown (PutPair g reason) Differ i seat _ reason l l.shows.shows l.shows.tells
 
   pub take_busy : (i seat : ℕ) (reason : Why) → EndsAt table g events i seat (answer.Take (take.Busy reason)) → BusyShown (TakePair reason) (steps_of table g events seat (suc i)) reason
-  take_busy i seat reason x = let l = last i seat _ x in subst (λ (steps : List CallStep). BusyShown (TakePair reason) steps reason) (sym l.whole) (busy_shown (TakePair reason) (l.before ++ l.last ∷ []) l.last reason l.shows.shows l.shows.tells)
+  take_busy i seat reason x = let l = last i seat _ x in busy_ended table g events Recalls (ShowsNext g) TellsAt goes_on told shown (TakePair reason) Differ i seat _ reason l l.shows.shows l.shows.tells

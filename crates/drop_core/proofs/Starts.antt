@@ -26,9 +26,8 @@ use Rattle.drop_core.specs.Stage.{stage}
 use Rattle.drop_core.specs.Words.{cursors}
 use Rattle.drop_core.specs.Counts.{fetches, raises_consumer, reading}
 use Rattle.drop_core.specs.Sound.{IsSound, IsSoundAt, TakeFits}
-use Rattle.drop_core.proofs.Frames.{quiet}
+use Rattle.drop_core.proofs.Frames.{fetched_reading, quiet}
 use Rattle.put_side.proofs.Made.{made_same}
-use Rattle.drop_core.proofs.TakeFrames.{fetched_reading}
 
 module _ (g : Grid) (f : Front) (ws : List ℕ) (vs : List View) (s : IsSoundAt g f ws vs) (id : ℕ) (v : View) (at : slice_get vs id ≡ Some v) (e : v.phase ≡ None) where
   no_put_begins : (entry : List ℕ) (q : DropTake) → (begun table g v None (start.Put entry)).phase ≡ Some (Take q) → ⊥

@@ -4,9 +4,8 @@ use Rattle.std.specs.Prelude.{Option, Some, slice_get, slice_set, slice_index, t
 use Rattle.std.specs.List.{sum_by}
 use Rattle.std.proofs.lemmas.Bool.{cases_eq, cases_lt}
 use Rattle.std.proofs.lemmas.List.{append-nil, length-append, map-append, set-get_or, take_all, take_more}
-use Rattle.std.proofs.lemmas.Nat.{div-mul-add, mod-mul-add}
 use Rattle.cursor_word.specs.Shape.{Grid, IsWithinLimits}
-use Rattle.cursor_word.specs.Cursor.{cursor_of, offset_span, place_at, unpacked}
+use Rattle.cursor_word.specs.Cursor.{offset_span, place_at, unpacked}
 use Rattle.cursor_word.specs.Layout.{entry_index}
 use Rattle.cursor_word.specs.declared.cursor.Cursor.{Cursor}
 use Rattle.rail.specs.declared.entry.Placed.{Placed}
@@ -23,7 +22,7 @@ use Rattle.put_side.specs.PutTable.{stage_in, stage_of}
 use Rattle.put_side.proofs.Facts.{place_next}
 use Rattle.put_side.proofs.Stores as side
 use Rattle.put_side.proofs.Frames.{Leaves, grown_same}
-use Rattle.put_side.proofs.Owns.{KeepsPutWords, keeps_own, manned_own}
+use Rattle.put_side.proofs.Owns.{keeps_own, manned_own}
 use Rattle.put_side.specs.PutSide.{PutSide}
 use Rattle.put_side.specs.Manned.{IsManned}
 use Rattle.put_side.proofs.Sums.{get_push, rising_front, times_push}
@@ -38,29 +37,20 @@ use Rattle.drop_core.specs.Stage.{stage}
 use Rattle.drop_core.specs.Words.{cursors}
 use Rattle.drop_core.specs.Counts.{fetched, fetches, raises_consumer, reading, reading_in}
 use Rattle.drop_core.specs.Sound.{DropKnows, IsReading, IsSoundAt}
-use Rattle.drop_core.proofs.Frames.{IsLater, IsQuiet, after_step, attended_stays, knows_later, quiet, quiet_later, quiet_own, rows}
-use Rattle.drop_core.proofs.Loads.{knows_take, pick_equal, pick_less}
+use Rattle.put_side.proofs.Lows.{rows}
+use Rattle.drop_core.proofs.Frames.{IsLater, IsQuiet, after_step, attended_stays, fetched_reading, knows_later, quiet, quiet_later, quiet_own}
+use Rattle.put_side.proofs.Choices.{pick_equal, pick_less}
+use Rattle.drop_core.proofs.Loads.{knows_take}
 use Rattle.drop_core.proofs.Reserves.{same_place}
-use Rattle.put_side.specs.Entries.{HasWords, IsMade, IsPresent}
+use Rattle.put_side.specs.Entries.{IsMade, IsPresent}
 use Rattle.put_side.proofs.Made.{made_same}
-use Rattle.drop_core.proofs.TakeFrames.{fetched_reading, seen_by}
+use Rattle.put_side.proofs.Moments.{made_words_at}
+use Rattle.put_side.proofs.TakeWords.{same_words, seen_by}
 
 holds_take : (g : Grid) (at : Cursor) (q : DropTake) (ph : Option DropPhase) → reading g ph ≡ place_at g at ∷ [] → ph ≡ Some (Take q) → reading_in g q ≡ [] → (read : List ℕ) → read ≡ []
 holds_take g at q ph holds e n read = let z : reading g ph ≡ reading_in g q = ap (reading g) e in let y : place_at g at ∷ [] ≡ [] = sym holds ∙ z ∙ n in cc
 
 module _ (g : Grid) (f : Front) (ws : List ℕ) (vs : List View) (limits : IsWithinLimits g) (s : IsSoundAt g f ws vs) where
-  -- the words of a made place whose block has not made way
-  pub made_words_at : (at : Cursor) (words : List ℕ) → g.blocks ≤ at.block → at.offset < g.size → IsMade vs (placed (place_at g at) words) → (IsPresent (allocated_word g ws) at.block → HasWords g ws at words g.width) × (length words ≡ g.width)
-  made_words_at at words from within m =
-      let p : ℕ = place_at g at in
-      let u = s.puts.entries m.seat m.view m.at in
-      let k : g.blocks + p / g.size ≡ at.block = ap (λ (z : ℕ). g.blocks + z) (div-mul-add (at.block - g.blocks) g.size at.offset within) ∙ omega arith in
-      let o : p % g.size ≡ at.offset = mod-mul-add (at.block - g.blocks) g.size at.offset within in
-      let is : cursor_of g p ≡ at = λ i. record { block = k i; offset = o i } in (
-        λ here. subst (λ (c : Cursor). HasWords g ws c words g.width) is (u.made_words m.number _ m.there (subst (λ (c : Cursor). IsPresent (allocated_word g ws) c.block) (sym is) here)),
-        u.made_wide m.number _ m.there,
-      )
-
   -- a made place lies below the next one to be allocated
   pub made_below : (item : Placed) → IsMade vs item → item.place < f.next
   made_below item m = side.made_below (stage_of stage) g limits f ws vs s.puts.places m.seat m.view m.number item m.at m.there
@@ -82,15 +72,12 @@ module _ (g : Grid) (f : Front) (ws : List ℕ) (vs : List View) (limits : IsWit
       (cases_lt f.last (at.block + g.blocks))
 
   module _ (id : ℕ) (v : View) (here : slice_get vs id ≡ Some v) where
-    same_words : KeepsPutWords g ws ws
-    same_words = record { all = refl; producer = refl; allocated = λ k. refl; committed = λ k. refl; entries = λ j l. refl }
-
     -- the side of puts, where no word changes
     away_stays : (v' : View) → stage_of stage v ≡ place.Away → Leaves (stage_of stage) v v' place.Away → PutSide (stage_of stage) g f ws (slice_set vs id v')
-    away_stays v' e to = keeps_own (stage_of stage) g f ws ws vs id v v' place.Away place.Away here e same_words refl to record { holds = refl; knows = tt; adds = λ k. inl refl } s.puts
+    away_stays v' e to = keeps_own (stage_of stage) g f ws ws vs id v v' place.Away place.Away here e (same_words g ws) refl to record { holds = refl; knows = tt; adds = λ k. inl refl } s.puts
 
     manned_stays : (v' : View) → stage_of stage v ≡ place.Away → IsManned (stage_of stage) g f (put_cursors g ws) (slice_set vs id v')
-    manned_stays v' e = manned_own (stage_of stage) g f ws ws vs id v v' place.Away place.Away here e same_words record { allocated = refl; producer = refl; entered = refl } s.manned
+    manned_stays v' e = manned_own (stage_of stage) g f ws ws vs id v v' place.Away place.Away here e (same_words g ws) record { allocated = refl; producer = refl; entered = refl } s.manned
 
     -- a word that is read is the item's, while its block has not made way
     pub keeps_Read : (at : Cursor) (next : ℕ) → v.phase ≡ Some (Take (Read at next)) → IsSoundAt g f (words_after table g ws v (Take (Read at next))) (slice_set vs id (view_after table g ws v (Take (Read at next))))
@@ -99,7 +86,7 @@ module _ (g : Grid) (f : Front) (ws : List ℕ) (vs : List View) (limits : IsWit
         let w : ℕ = slice_index ws i in
         let k = knows_take g f ws vs limits s id v here (Read at next) e in
         let of = k.0 in
-        let has = made_words_at at of.words of.from of.within of.made in
+        let has = made_words_at stage g f ws vs s.puts at of.words of.from of.within of.made in
         let read : List ℕ = v.read ++ w ∷ [] in
         let long : length read ≡ next + 1 = let a = length-append v.read (w ∷ []) in let b = of.long in omega arith in
         let more : IsPresent (allocated_word g ws) at.block → read ≡ take (next + 1) of.words = λ z.
@@ -129,7 +116,7 @@ module _ (g : Grid) (f : Front) (ws : List ℕ) (vs : List View) (limits : IsWit
         let w : ℕ = slice_index ws i in
         let p : ℕ = place_at g at in
         let of = knows_take g f ws vs limits s id v here (Verify at) e in
-        let has = made_words_at at of.words of.from of.within of.made in
+        let has = made_words_at stage g f ws vs s.puts at of.words of.from of.within of.made in
         let own = s.each id v here in
         let mine : fetched g v ≡ places v.taken ++ p ∷ [] = fetched_reading g v _ (ap (reading g) e) in
         let yes : After = Done (answer.Take (taking.Ok p)) in

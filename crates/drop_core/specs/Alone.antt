@@ -1,5 +1,5 @@
 -- A call that is done alone, step by step: all other seats are at rest.
-use Rattle.std.specs.Prelude.{◌≡◌, ◌≢◌, ℕ, ◌+◌, ◌*◌, ◌/◌, ◌%◌, ◌<◌, ◌≤◌, ◌⊎◌, max, List, Some, None, slice_get, slice_index}
+use Rattle.std.specs.Prelude.{◌≡◌, ℕ, ◌+◌, ◌*◌, ◌<◌, ◌≤◌, ◌⊎◌, max, List}
 use Rattle.std.specs.List.{sum_by}
 use Rattle.cursor_word.specs.Shape.{Grid}
 use Rattle.cursor_word.specs.Cursor.{offset_span, packed, place_at}
@@ -10,9 +10,11 @@ use Rattle.rail.specs.Sequential.{beyond, drop_next, drop_put, drop_take}
 use Rattle.machine.specs.declared.op.After.TheVariants.{Next, Done}
 use Rattle.machine.specs.Invariant.{made_total}
 use Rattle.machine.specs.Steps.{AllRest}
-use Rattle.put_side.specs.Cursors.{allocated_word, place}
+use Rattle.put_side.specs.Alone.{OthersRest, PutAlone}
+use Rattle.put_side.specs.Cursors.{place}
+use Rattle.put_side.specs.Stages.{At, Fills}
 use Rattle.drop_core.specs.declared.phase.DropPhase.{DropPhase}
-use Rattle.drop_core.specs.declared.phase.DropPhase.TheVariants.{HeadP, SeeA, AddA, Write, Commit, SeeM, OpenM, OpenA, RaiseP, Take}
+use Rattle.drop_core.specs.declared.phase.DropPhase.TheVariants.{Put, SeeM, Take}
 use Rattle.drop_core.specs.declared.take_phase.DropTake.{DropTake}
 use Rattle.drop_core.specs.declared.take_phase.DropTake.TheVariants.{HeadC, SeeRes, SeeCom, SeeAll, Reserve, Read, Verify, NextCom, Jump, OpenR, RaiseC}
 use Rattle.drop_core.specs.Types.{After, View}
@@ -39,15 +41,6 @@ pub record IsNext (shape : Grid) (c : Cursors) (views : List View) (next : ℕ) 
 -- one more than the greatest answered place, with an answer more
 abbrev pub next_after : ℕ → Answer → ℕ
 next_after next a = max next (beyond (place_answered a))
-
-abbrev pub OthersRest : List View → ℕ → Type 0
-OthersRest views id = (j : ℕ) (u : View) → j ≢ id → slice_get views j ≡ Some u → u.phase ≡ None
-
--- what a seat alone knows of the cursors in its second turn: the head's block was just opened
-abbrev pub PutOpened : Grid → List ℕ → ℕ → Type 0
-PutOpened shape words turn =
-    (turn ≡ 1) ⊎ (allocated_word shape words (slice_index words 0)
-    ≡ slice_index words 0 * offset_span)
 
 -- a block is not reused, while the producer head is at the last opened one
 abbrev pub IsLive : Grid → Cursors → ℕ → Type 0
@@ -85,21 +78,8 @@ TakeAlone shape accepted next c (RaiseC from to) =
 
 -- and in a put
 abbrev pub KnowsAlone : Grid → ℕ → ℕ → List ℕ → DropPhase → Type 0
-KnowsAlone shape accepted next words (HeadP turn first) = PutOpened shape words turn
-KnowsAlone shape accepted next words (SeeA turn first head) =
-    (head ≡ slice_index words 0) × PutOpened shape words turn
-KnowsAlone shape accepted next words (AddA turn first head) =
-    (head ≡ slice_index words 0) × (allocated_word shape words head % offset_span < shape.size)
-KnowsAlone shape accepted next words (Write at n) = place_at shape at ≡ accepted
-KnowsAlone shape accepted next words (Commit at) = place_at shape at ≡ accepted
-KnowsAlone shape accepted next words (SeeM full) = full.block ≡ slice_index words 0
-KnowsAlone shape accepted next words (OpenM full) = full.block ≡ slice_index words 0
-KnowsAlone shape accepted next words (OpenA full) =
-    (full.block ≡ slice_index words 0)
-    × (allocated_word shape words (full.block + 1) / offset_span < full.block + 1)
-KnowsAlone shape accepted next words (RaiseP full) =
-    (full.block ≡ slice_index words 0)
-    × (allocated_word shape words (full.block + 1) ≡ (full.block + 1) * offset_span)
+KnowsAlone shape accepted next words (Put q) = PutAlone shape accepted words (At q)
+KnowsAlone shape accepted next words (SeeM full) = PutAlone shape accepted words (Fills full)
 KnowsAlone shape accepted next words (Take q) =
     TakeAlone shape accepted next (cursors shape words) q
 

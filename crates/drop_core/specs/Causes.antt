@@ -1,5 +1,5 @@
 -- What the steps of a call show of its answer.
-use Rattle.std.specs.Prelude.{◌≡◌, ◌≢◌, ℕ, suc, ◌+◌, ◌-◌, ◌<◌, ◌⊎◌, List, Some, length, slice_get}
+use Rattle.std.specs.Prelude.{◌≡◌, ◌≢◌, ℕ, suc, ◌+◌, ◌-◌, ◌<◌, ◌⊎◌, List, length}
 use Rattle.cursor_word.specs.Shape.{Grid}
 use Rattle.cursor_word.specs.Cursor.{IsBefore, cursor, first_of, place_at, unpacked}
 use Rattle.cursor_word.specs.declared.cursor.Cursor.{Cursor}
@@ -7,10 +7,12 @@ use Rattle.rail.specs.declared.answer.Why.{Why}
 use Rattle.rail.specs.declared.answer.Why.TheVariants as why
 use Rattle.machine.specs.declared.event.Event.{Event}
 use Rattle.machine.specs.Moments.{moment}
+use Rattle.put_side.specs.Causes as causes
 use Rattle.drop_core.specs.declared.phase.DropPhase.{DropPhase}
-use Rattle.drop_core.specs.declared.phase.DropPhase.TheVariants.{SeeA, AddA, SeeM, Take}
+use Rattle.drop_core.specs.declared.phase.DropPhase.TheVariants.{SeeM, Take}
 use Rattle.drop_core.specs.declared.take_phase.DropTake.TheVariants.{HeadC, SeeRes, SeeCom, SeeAll, Reserve, Verify, NextCom}
 use Rattle.drop_core.specs.Types.{CallStep}
+use Rattle.drop_core.specs.Stage.{stage}
 use Rattle.drop_core.specs.Steps.{table}
 use Rattle.drop_core.specs.Moments.{EmptyAt, OverrunAt}
 
@@ -20,19 +22,13 @@ shown (Take (HeadC turn first)) old = cursor old 0
 shown p old = unpacked old
 
 -- a step of this kind found this cursor
-pub record FoundBy (Is : DropPhase → Type 0) (c : Cursor) (steps : List CallStep) : Type 0 where
-  pub number : ℕ
-  pub step : CallStep
-  pub at : slice_get steps number ≡ Some step
-  pub kind : Is step.phase
-  pub found : shown step.phase step.found ≡ c
+abbrev pub FoundBy : (DropPhase → Type 0) → Cursor → List CallStep → Type 0
+FoundBy Is c steps = causes.FoundBy shown Is c steps
 
 -- a step of this turn that finds the allocated cursor of the head's block, the consumer head, or
 -- the reserved cursor of that head's block
 abbrev pub FindsAllocated : ℕ → DropPhase → Type 0
-FindsAllocated turn (SeeA t first head) = t ≡ turn
-FindsAllocated turn (AddA t first head) = t ≡ turn
-FindsAllocated turn p = ⊥
+FindsAllocated turn p = causes.FindsAllocated turn (stage p)
 
 abbrev pub FindsHead : ℕ → DropPhase → Type 0
 FindsHead turn (Take (HeadC t first)) = t ≡ turn
@@ -86,15 +82,6 @@ pub record OverrunShown (shape : Grid) (events : List Event) (steps : List CallS
   pub is_last : suc last.number ≡ length steps
   pub was_overrun : OverrunAt shape (moment table shape events last.step.position) at now
 
--- the two cursors of a Busy answer, in the order in which they were found
-abbrev pub first_found : Why → Cursor
-first_found (why.Unfinished block before after) = before
-first_found (why.Moved earlier later) = earlier
-
-abbrev pub second_found : Why → Cursor
-second_found (why.Unfinished block before after) = after
-second_found (why.Moved earlier later) = later
-
 -- The step p that finds the first cursor of a put's Busy answer, and the step q that finds the
 -- second: the filled allocated cursor and then the committed one in the place of the next block, or
 -- the allocated cursor in each turn.
@@ -128,10 +115,5 @@ Differ (why.Moved earlier later) q = earlier.block < later.block
 
 -- a call that answers Busy found the second cursor in its last step, and the first in an earlier
 -- one
-pub record BusyShown (Pair : DropPhase → DropPhase → Type 0) (steps : List CallStep)
-    (reason : Why) : Type 0 where
-  pub earlier : FoundBy (λ p. Unit {0}) (first_found reason) steps
-  pub later : FoundBy (λ q. Pair earlier.step.phase q) (second_found reason) steps
-  pub in_order : earlier.number < later.number
-  pub is_last : suc later.number ≡ length steps
-  pub differ : Differ reason later.step.phase
+abbrev pub BusyShown : (DropPhase → DropPhase → Type 0) → List CallStep → Why → Type 0
+BusyShown Pair steps reason = causes.BusyShown shown Pair Differ steps reason

@@ -12,13 +12,13 @@ use Rattle.put_side.specs.Entries.{IsMade, IsPresent}
 use Rattle.put_side.specs.PutSide.{PutSide}
 use Rattle.put_side.specs.Manned.{IsManned}
 use Rattle.put_side.specs.PutTable.{stage_of}
+use Rattle.put_side.specs.declared.put_phase.PutPhase.TheVariants.{OpenM}
 use Rattle.drop_core.specs.declared.phase.DropPhase.{DropPhase}
-use Rattle.drop_core.specs.declared.phase.DropPhase.TheVariants.{OpenM, Take}
+use Rattle.drop_core.specs.declared.phase.DropPhase.TheVariants.{Put, Take}
 use Rattle.drop_core.specs.declared.take_phase.DropTake.{DropTake}
 use Rattle.drop_core.specs.declared.take_phase.DropTake.TheVariants.{HeadC, SeeRes, SeeCom, SeeAll, Reserve, Read, Verify, NextCom, Jump, OpenR, RaiseC}
 use Rattle.drop_core.specs.Types.{View}
-use Rattle.drop_core.specs.PutSteps.{older_committed}
-use Rattle.drop_core.specs.TakeSteps.{IsTurn}
+use Rattle.put_side.specs.PutSteps.{IsTurn, older_full}
 use Rattle.drop_core.specs.Stage.{stage}
 use Rattle.drop_core.specs.Words.{Cursors, IsPassed, TakeWords, cursors}
 use Rattle.drop_core.specs.Counts.{IsAttended, TakeCounts, fetched, reading_in}
@@ -108,8 +108,8 @@ TakeKnows shape last cursors views taken read (RaiseC from to) =
 -- the block which it takes the place of was found wholly committed
 abbrev pub DropKnows : Grid → ℕ → Cursors → List View → List Placed → List ℕ
     → Option DropPhase → Type 0
-DropKnows shape last cursors views taken read (Some (OpenM full)) =
-    older_committed shape full.block ≤ cursors.puts.committed (full.block + 1)
+DropKnows shape last cursors views taken read (Some (Put (OpenM full))) =
+    older_full shape full.block ≤ cursors.puts.committed (full.block + 1)
 DropKnows shape last cursors views taken read (Some (Take take)) =
     TakeKnows shape last cursors views taken read take
 DropKnows shape last cursors views taken read phase = Unit {0}

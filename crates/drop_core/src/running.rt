@@ -11,10 +11,7 @@ impl CallPhase for DropPhase {
     #[inline(always)]
     fn usual_step(&self) -> u64 {
         match *self {
-            DropPhase::HeadP { .. } => 0,
-            DropPhase::SeeA { .. } => 1,
-            DropPhase::AddA { .. } => 2,
-            DropPhase::Write { .. } => 3,
+            DropPhase::Put(put) => put.usual_step(),
             DropPhase::Take(DropTake::HeadC { .. }) => 0,
             DropPhase::Take(DropTake::SeeRes { .. }) => 1,
             DropPhase::Take(DropTake::SeeCom { .. }) => 2,

@@ -9,7 +9,7 @@ use Rattle.rail.specs.declared.entry.Placed.{Placed}
 use Rattle.step_log.specs.declared.log.Step.{Step}
 use Rattle.step_log.specs.Log.{loaded}
 use Rattle.put_side.proofs.Sums.{by_test}
-use Rattle.drop_core.proofs.Loads.{by_equal}
+use Rattle.put_side.proofs.Choices.{by_equal}
 use Rattle.block_looks.specs.declared.look.LookPhase.{LookPhase}
 use Rattle.block_looks.specs.declared.look.LookPhase.TheVariants.{Word, Check}
 use Rattle.block_looks.specs.declared.look.LookAfter.{LookAfter}

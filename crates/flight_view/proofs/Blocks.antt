@@ -17,7 +17,7 @@ use Rattle.block_looks.specs.declared.look.Look.{Look}
 use Rattle.block_looks.specs.declared.look.Look.TheVariants as look
 use Rattle.block_looks.specs.Table.{look_of}
 use Rattle.block_looks.specs.Shown.{AreBefore, AreWithin, LookLeads}
-use Rattle.drop_core.proofs.Loads.{by_equal}
+use Rattle.put_side.proofs.Choices.{by_equal}
 use Rattle.drop_rail.specs.Looking.{HasLooked, Looker}
 use Rattle.flight_view.specs.declared.gaps.Gap.{Gap}
 use Rattle.flight_view.specs.Walks.{AreEntryLooks, BlockLook, block_gaps, block_items, block_loads, gap, reused_in}

@@ -33,7 +33,7 @@ use Rattle.block_looks.specs.Laws.{IsLookDone, LooksAreKept}
 use Rattle.block_looks.specs.Shown.{AreBefore, BlockShown, LookLeads, LookShows, look_loads}
 use Rattle.block_looks.proofs.Lasts.{starts}
 use Rattle.block_looks.proofs.Wholes.{pick_whole}
-use Rattle.drop_core.proofs.Loads.{by_equal}
+use Rattle.put_side.proofs.Choices.{by_equal}
 use Rattle.flight_view.specs.Walks.{EntryLook, entry_items, gap}
 use Rattle.flight_view.specs.Parts.{OwnIsFound, entry_look}
 use Rattle.flight_view.specs.Promised.{IsReusedGap}

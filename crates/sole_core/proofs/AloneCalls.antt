@@ -11,7 +11,7 @@ use Rattle.machine.proofs.Lists.{get_set_other, sum_set}
 use Rattle.put_side.specs.Cursors.{Front, put_cursors}
 use Rattle.put_side.proofs.Few.{last_small}
 use Rattle.sole_core.specs.declared.phase.SolePhase.{SolePhase}
-use Rattle.sole_core.specs.declared.phase.SolePhase.TheVariants.{HeadP, SeeA, AddA, Write, Commit, SeeX, OpenM, OpenA, RaiseP, Take}
+use Rattle.sole_core.specs.declared.phase.SolePhase.TheVariants.{Put, SeeX, Take}
 use Rattle.sole_core.specs.Types.{View}
 use Rattle.sole_core.specs.PutSteps.{first_put}
 use Rattle.sole_core.specs.TakeSteps.{first_take}
@@ -20,22 +20,15 @@ use Rattle.sole_core.specs.Stage.{stage_of}
 use Rattle.sole_core.specs.Counts.{taken_count}
 use Rattle.sole_core.specs.Sound.{IsSoundAt}
 use Rattle.sole_core.specs.Alone.{IsAlone, IsStill, LoneKnows}
-use Rattle.sole_core.proofs.Alone.{lone_AddA, lone_Commit, lone_HeadP, lone_OpenA, lone_OpenM, lone_RaiseP, lone_SeeA, lone_SeeX, lone_Write}
+use Rattle.sole_core.proofs.Alone.{put_goes, see_goes}
 use Rattle.sole_core.proofs.AloneTakes.{take_goes}
 use Rattle.sole_core.proofs.LoneSteps.{Goes, IsHere}
 use Rattle.sole_core.proofs.Starts.{begins_manned, begins_put_at, begins_take_at}
 
 -- each step of a seat alone
 goes : (g : Grid) (n t : ℕ) (front : Front) (next : ℕ) (ws : List ℕ) (vs : List View) (id : ℕ) (v : View) (p : SolePhase) → IsHere g n t front next ws vs id v p → Goes g n t ws vs id v p
-goes g n t front next ws vs id v (HeadP turn first) h = lone_HeadP g n t front next ws vs id v turn first h
-goes g n t front next ws vs id v (SeeA turn first head) h = lone_SeeA g n t front next ws vs id v turn first head h
-goes g n t front next ws vs id v (AddA turn first head) h = lone_AddA g n t front next ws vs id v turn first head h
-goes g n t front next ws vs id v (Write at count) h = lone_Write g n t front next ws vs id v at count h
-goes g n t front next ws vs id v (Commit at) h = lone_Commit g n t front next ws vs id v at h
-goes g n t front next ws vs id v (SeeX full) h = lone_SeeX g n t front next ws vs id v full h
-goes g n t front next ws vs id v (OpenM full) h = lone_OpenM g n t front next ws vs id v full h
-goes g n t front next ws vs id v (OpenA full) h = lone_OpenA g n t front next ws vs id v full h
-goes g n t front next ws vs id v (RaiseP full) h = lone_RaiseP g n t front next ws vs id v full h
+goes g n t front next ws vs id v (Put q) h = put_goes g n t front next ws vs id v q h
+goes g n t front next ws vs id v (SeeX full) h = see_goes g n t front next ws vs id v full h
 goes g n t front next ws vs id v (Take q) h = take_goes g n t front next ws vs id v q h
 
 -- a step of a seat alone: it goes on alone, or all seats are at rest and the answer is what one thread is answered
@@ -49,7 +42,7 @@ pub begun_total : (f : View → ℕ) (vs : List View) (id n : ℕ) (v v' : View)
 begun_total f vs id n v v' at e total = let z = sum_set f vs id v v' at in omega arith
 
 module _ (g : Grid) (limits : IsWithinLimits g) (n t : ℕ) (ws : List ℕ) (vs : List View) (id : ℕ) (v : View) (s : IsStill g n t ws vs) (at : slice_get vs id ≡ Some v) where
-  begins : (v' : View) (p : SolePhase) → made_count v' ≡ made_count v → taken_count v' ≡ taken_count v → IsSoundAt g s.front s.next ws (slice_set vs id v') → LoneKnows g s.front.last n ws p → IsAlone g n t ws (slice_set vs id v') id p
+  begins : (v' : View) (p : SolePhase) → made_count v' ≡ made_count v → taken_count v' ≡ taken_count v → IsSoundAt g s.front s.next ws (slice_set vs id v') → LoneKnows g n ws p → IsAlone g n t ws (slice_set vs id v') id p
   begins v' p made taken sound knows = record {
     front = s.front;
     next = s.next;

@@ -19,19 +19,21 @@ use Rattle.machine.specs.declared.op.After.TheVariants.{Next, Done}
 use Rattle.put_side.specs.Cursors.{Front, allocated_word, committed_word}
 use Rattle.put_side.specs.Counts.{makes}
 use Rattle.put_side.proofs.Facts.{repacked}
+use Rattle.put_side.proofs.AlonePuts.{accepted_of, made_of, open_of}
+use Rattle.put_side.proofs.Lone as lone
 use Rattle.put_side.proofs.Items.{made_counts}
 use Rattle.put_side.proofs.Sums.{none_from, one_in}
+use Rattle.put_side.proofs.Moments.{made_within}
 use Rattle.sole_core.specs.declared.phase.SolePhase.TheVariants.{Take}
 use Rattle.sole_core.specs.declared.take_phase.SoleTake.{SoleTake}
 use Rattle.sole_core.specs.declared.take_phase.SoleTake.TheVariants.{Com, All, Word, Consume}
 use Rattle.sole_core.specs.Types.{After, View}
 use Rattle.sole_core.specs.TakeSteps.{empty}
 use Rattle.sole_core.specs.Sound.{cursor_in}
-use Rattle.sole_core.proofs.Facts.{made_once, taken_within}
-use Rattle.sole_core.proofs.Loads.{by_equal, pick_equal, pick_less, pick_same}
-use Rattle.sole_core.proofs.Lone as lone
-use Rattle.sole_core.proofs.LoneSteps as alone
-use Rattle.sole_core.proofs.LoneSteps.{Follows, Goes, IsHere, accepted_is, come_to_rest, front_is, given_is, load_on, next_of}
+use Rattle.sole_core.specs.Stage.{stage}
+use Rattle.sole_core.proofs.Facts.{taken_within}
+use Rattle.put_side.proofs.Choices.{by_equal, pick_equal, pick_less, pick_same}
+use Rattle.sole_core.proofs.LoneSteps.{Follows, Goes, IsHere, come_to_rest, given_is, load_on, next_of, put_here}
 use Rattle.sole_core.proofs.Outcomes.{none_opened, none_there}
 use Rattle.sole_core.proofs.TakeLoads.{committed_is, knows_at}
 
@@ -58,9 +60,9 @@ module _ (g : Grid) (n t : ℕ) (front : Front) (next : ℕ) (ws : List ℕ) (vs
   -- nothing is left
   ends_empty : (i x : ℕ) → (h : Here (Com c)) → sum_by (makes next) vs ≡ 0 → Follows h (slice_set ws i (slice_index ws i)) x v.read (empty g c)
   ends_empty i x h none q =
-      let number = accepted_is h in
+      let number = accepted_of (put_here h) refl in
       let given = given_is h in
-      let all = alone.made_once h refl next in
+      let all = made_of (put_here h) refl next in
       let within = taken_within g h.limits front next ws vs h.sound in
       let last : front.next ≡ next = ⊎_elim (λ l. let o = one_in next front.next l in absurd (omega arith)) (λ l. omega arith) (cases_lt next front.next) in
       let at = place_of_cursor g next in
@@ -76,8 +78,8 @@ module _ (g : Grid) (n t : ℕ) (front : Front) (next : ℕ) (ws : List ℕ) (vs
       (λ ne. pick_less F (w / offset_span) c.block (empty g c) _
       (λ l. ends_empty i w h (none_opened g front next ws vs id v h.limits h.sound h.at l))
       (λ l. pick_equal F (w % offset_span) g.size (Next (Take (Word c 0))) (Next (Take (All c (unpacked w))))
-      (λ e q. load_on h _ _ tt q refl refl tt)
-      (λ e q. load_on h _ _ tt q refl refl (repacked w))))
+      (λ e q. load_on h _ _ q refl refl tt)
+      (λ e q. load_on h _ _ q refl refl (repacked w))))
       (next_of h)
 
   all_alone : (m : Cursor) → Here (All c m) → Leads (All c m)
@@ -90,16 +92,16 @@ module _ (g : Grid) (n t : ℕ) (front : Front) (next : ℕ) (ws : List ℕ) (vs
       let knows = h.knows in
       let block : k ≤ committed_word g ws k / offset_span = omega (arith, f.same) in
       let is = committed_is g h.limits front next ws vs h.sound block in
-      let top = front_is h refl in
+      let top = open_of (put_here h) refl in
       let from = block_of_place_from g next in
-      let off : committed_word g ws k % offset_span ≡ min (allocated_word g ws k % offset_span) g.size = lone.committed_is g front next ws vs h.limits h.sound top (alone.made_once h refl) k is.0 h.sound.near from in
+      let off : committed_word g ws k % offset_span ≡ min (allocated_word g ws k % offset_span) g.size = lone.committed_is stage g front ws vs h.limits h.sound.puts top (made_of (put_here h) refl) k is.0 h.sound.near from in
       let offset : committed_word g ws k % offset_span ≡ m.offset = omega (arith, f.same, f.within) in
       let alike : w % offset_span ≡ m.offset = omega (arith, f.within) in
       let own : w / offset_span ≡ k = ⊎_elim (λ l. let p = h.sound.puts.places.words.full k l h.sound.near in p.0) (λ l. let e : k ≡ front.last = omega (arith, is.0) in ap (λ (b : ℕ). allocated_word g ws b / offset_span) e ∙ top ∙ sym e) (cases_lt k front.last) in
       let same : w ≡ packed m = omega (arith, f.same, f.within) in
       let found : m ≡ unpacked w = sym (unpacked_packed m (omega (arith, f.within))) ∙ ap unpacked (sym same) in
       pick_same (Follows h (slice_set ws i w) w v.read) w m (Next (Take (Word c 0))) (Done (answer.Take (take.Busy (why.Unfinished k m (unpacked w)))))
-      (λ e q. load_on h _ _ tt q refl refl tt)
+      (λ e q. load_on h _ _ q refl refl tt)
       (λ ne q. absurd (ne found))
       (next_of h)
 
@@ -108,17 +110,17 @@ module _ (g : Grid) (n t : ℕ) (front : Front) (next : ℕ) (ws : List ℕ) (vs
       let i : ℕ = entry_index g (c.block % g.blocks) c.offset count in
       let w : ℕ = slice_index ws i in
       pick_less (Follows h (slice_set ws i w) w (v.read ++ w ∷ [])) (count + 1) g.width (Next (Take (Word c (count + 1)))) (Next (Take (Consume c)))
-      (λ l q. load_on h _ _ tt q refl refl tt)
-      (λ l q. load_on h _ _ tt q refl refl tt)
+      (λ l q. load_on h _ _ q refl refl tt)
+      (λ l q. load_on h _ _ q refl refl tt)
       (next_of h)
 
   consume_alone : Here (Consume c) → Leads (Consume c)
   consume_alone h =
       let f = (knows_at g h.limits front next ws vs h.sound id v h.at (Consume c) h.phase).1 in
-      let number = accepted_is h in
+      let number = accepted_of (put_here h) refl in
       let given = given_is h in
       let made = made_counts vs (placed next v.read) f in
-      let once = made_once g h.limits front next ws vs h.sound next in
+      let once = made_within stage g front ws vs h.sound.puts next in
       let less : next < front.next = ⊎_elim (λ l. l) (λ l. let z = none_from next front.next l in absurd (omega arith)) (cases_lt next front.next) in
       let at = place_of_cursor g next in
       (ok_alone n t (place_at g c) (omega arith) (omega arith), come_to_rest h 0 1 _ (next_of h) refl (omega arith) (length-append v.taken _))

@@ -1,9 +1,9 @@
 -- The consumer moves on: the consumed cursor is raised past the entry.
-use Rattle.std.proofs.Common.{◌≡◌, ◌≢◌, ℕ, suc, ◌⊎◌, inr, ◌+◌, ◌*◌, ◌%◌, ◌<◌, ◌≤◌, max, List, [], ◌∷◌, ◌++◌, length, refl, sym, ap, ◌∙◌, subst, inl, ⊎_elim, arith}
+use Rattle.std.proofs.Common.{◌≡◌, ℕ, suc, ◌⊎◌, inr, ◌+◌, ◌*◌, ◌%◌, ◌<◌, ◌≤◌, max, List, [], ◌∷◌, ◌++◌, length, refl, sym, ap, ◌∙◌, subst, inl, ⊎_elim, arith}
 use Rattle.std.specs.Prelude.{Some, slice_get, slice_set, slice_index}
 use Rattle.std.specs.List.{sum_by}
 use Rattle.put_side.specs.Counts.{makes}
-use Rattle.std.proofs.lemmas.List.{length-set, get_or-set_same, get_or-set_other, map-append}
+use Rattle.std.proofs.lemmas.List.{get_or-set_other, map-append}
 use Rattle.std.proofs.lemmas.Bool.{cases_eq, cases_lt}
 use Rattle.std.proofs.lemmas.Nat.{mod_below}
 use Rattle.cursor_word.specs.Shape.{Grid, IsWithinLimits}
@@ -19,13 +19,12 @@ use Rattle.machine.proofs.Lists.{get_set}
 use Rattle.put_side.specs.Cursors.{Front, consumed_word, put_cursors}
 use Rattle.put_side.specs.Entries.{IsMade}
 use Rattle.put_side.specs.Manned as put_work
-use Rattle.put_side.specs.Stages as stages
 use Rattle.put_side.specs.PutTable.{stage_in}
 use Rattle.put_side.proofs.Sums.{get_push}
 use Rattle.put_side.proofs.Orders.{range_more}
 use Rattle.put_side.proofs.Items.{made_counts}
 use Rattle.put_side.proofs.Made.{made_same}
-use Rattle.put_side.proofs.Owns.{KeepsPutWords, keeps_own, manned_own}
+use Rattle.put_side.proofs.TakeWords.{consumed_at, keeps_put_words, manned_stays, puts_stay, set_at}
 use Rattle.sole_core.specs.declared.phase.SolePhase.TheVariants.{Take}
 use Rattle.sole_core.specs.declared.take_phase.SoleTake.TheVariants.{Consume}
 use Rattle.sole_core.specs.Types.{View}
@@ -39,30 +38,6 @@ use Rattle.sole_core.proofs.TakeLoads.{knows_at}
 
 numbers_more : (n p : ℕ) → p ≡ n → numbers_below n ++ p ∷ [] ≡ numbers_below (n + 1)
 numbers_more n p e = let z : p ≡ 0 + n = omega arith in let f : suc n ≡ n + 1 = omega arith in ap (λ (k : ℕ). numbers_below n ++ k ∷ []) z ∙ sym (range_more 0 n) ∙ ap numbers_below f
-
--- what stands in the words of consumed cursors after one was raised
-record IsRaised (g : Grid) (ws : List ℕ) (b x : ℕ) (ws' : List ℕ) : Type 0 where
-  pub there : (k : ℕ) → k % g.blocks ≡ b % g.blocks → consumed_word g ws' k ≡ x
-  pub elsewhere : (k : ℕ) → k % g.blocks ≢ b % g.blocks → consumed_word g ws' k ≡ consumed_word g ws k
-
-raised : (g : Grid) (ws : List ℕ) (b x : ℕ) → 5 + 4 * (b % g.blocks) < length ws → IsRaised g ws b x (slice_set ws (5 + 4 * (b % g.blocks)) x)
-raised g ws b x long = record {
-  there = λ k e. ap (λ (j : ℕ). slice_index (slice_set ws (5 + 4 * (b % g.blocks)) x) (5 + 4 * j)) e ∙ get_or-set_same ws (5 + 4 * (b % g.blocks)) x 0 long;
-  elsewhere = λ k e. get_or-set_other ws (5 + 4 * (b % g.blocks)) (5 + 4 * (k % g.blocks)) x 0 (λ q. e (omega arith));
-}
-
--- the words of puts, and those that no step moves, stay where a consumed cursor is raised
-keeps_puts : (g : Grid) (ws : List ℕ) (b x : ℕ) → IsWithinLimits g → KeepsPutWords g ws (slice_set ws (5 + 4 * (b % g.blocks)) x)
-keeps_puts g ws b x limits =
-    let i : ℕ = 5 + 4 * (b % g.blocks) in
-    let m = mod_below b g.blocks (omega (arith, limits.blocks_from)) in
-    record {
-      all = length-set ws i x;
-      producer = get_or-set_other ws i 0 x 0 (λ e. omega arith);
-      allocated = λ k. get_or-set_other ws i _ x 0 (λ e. omega arith);
-      committed = λ k. get_or-set_other ws i _ x 0 (λ e. omega arith);
-      entries = λ j h. get_or-set_other ws i j x 0 (λ e. omega arith);
-    }
 
 module _ (g : Grid) (limits : IsWithinLimits g) (front : Front) (next : ℕ) (ws : List ℕ) (vs : List View) (s : IsSoundAt g front next ws vs) (few : made_total vs ≤ place_span g) (id : ℕ) (v : View) (at : slice_get vs id ≡ Some v) where
   abbrev c : Cursor
@@ -92,7 +67,7 @@ module _ (g : Grid) (limits : IsWithinLimits g) (front : Front) (next : ℕ) (ws
       let w = s.takes in
       let on = one_on g limits next in
       let within = offset_of_place g next limits in
-      let u = raised g ws c.block x long in
+      let u = set_at g 5 ws c.block x long in
       let c' : Cursor = cursor_of g (next + 1) in
       let size = limits.size_to in
       let further : ((c'.block ≡ c.block) × (c'.offset ≡ c.offset + 1)) ⊎ ((c'.block ≡ c.block + 1) × (c'.offset ≡ 0) × (c.offset + 1 ≡ g.size)) =
@@ -121,9 +96,9 @@ module _ (g : Grid) (limits : IsWithinLimits g) (front : Front) (next : ℕ) (ws
       let first : id ≡ consumer = is_consumer g front next ws vs s id v (Consume c) at e in
       let f = (knows_at g limits front next ws vs s id v at (Consume c) e).1 in
       let here : place_at g c ≡ next = place_of_cursor g next in
-      let u = raised g ws c.block x long in
+      let u = set_at g 5 ws c.block x long in
       let m = mod_below c.block g.blocks (omega (arith, limits.blocks_from)) in
-      let keeps = keeps_puts g ws c.block x limits in
+      let keeps = keeps_put_words g ws i x (consumed_at g c.block limits) in
       let made = made_same vs id v v' at refl in
       let later : IsLater g ws ws' vs vs' = record {
         consumed = λ k. ⊎_elim (λ q. let t = u.there k q in let z : consumed_word g ws k ≡ slice_index ws i = ap (λ (j : ℕ). slice_index ws (5 + 4 * j)) q in omega arith) (λ q. let t = u.elsewhere k q in omega arith) (cases_eq (k % g.blocks) (c.block % g.blocks));
@@ -132,7 +107,7 @@ module _ (g : Grid) (limits : IsWithinLimits g) (front : Front) (next : ℕ) (ws
       } in
       let on = one_on g limits next in
       record {
-        puts = keeps_own stage_of g front ws ws' vs id v v' stages.Away stages.Away at (ap (stage_in stage) e) keeps refl record { made = refl; entry = refl; stands = refl } record { holds = refl; knows = tt; adds = λ k. inl refl } s.puts;
+        puts = puts_stay g ws i x (consumed_at g c.block limits) stage_of front vs id v v' at (ap (stage_in stage) e) s.puts record { made = refl; entry = refl; stands = refl };
         takes = consumed_on;
         unmoved = let y = s.unmoved in record { head = get_or-set_other ws i 1 x 0 (λ q. omega arith) ∙ y.head; reserved = λ k. get_or-set_other ws i (4 + 4 * (k % g.blocks)) x 0 (λ q. omega arith) ∙ y.reserved k };
         near = let n = s.near in ⊎_elim (λ l. let a = (on.within l).0 in omega arith) (λ l. let a = (on.last l).0 in omega arith) (cases_lt (c.offset + 1) g.size);
@@ -153,7 +128,7 @@ module _ (g : Grid) (limits : IsWithinLimits g) (front : Front) (next : ℕ) (ws
 
   -- who is at work for puts stays
   consumes_manned : v.phase ≡ Some (Take (Consume c)) → put_work.IsManned stage_of g front (put_cursors g ws) vs → put_work.IsManned stage_of g front (put_cursors g ws') vs'
-  consumes_manned e m = manned_own stage_of g front ws ws' vs id v v' stages.Away stages.Away at (ap (stage_in stage) e) (keeps_puts g ws c.block x limits) record { allocated = refl; producer = refl; entered = refl } m
+  consumes_manned e m = manned_stays g ws i x (consumed_at g c.block limits) stage_of front vs id v v' at (ap (stage_in stage) e) m
 
   -- what the last step of a take leaves
   pub record IsConsumed (r : Cursor) : Type 0 where

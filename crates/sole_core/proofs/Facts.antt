@@ -2,13 +2,12 @@
 use Rattle.std.proofs.Common.{◌≡◌, ℕ, ◌+◌, ◌<◌, ◌≤◌, List, [], ◌∷◌, length, refl, sym, ap, ◌∙◌, ⊎_elim, arith}
 use Rattle.std.specs.List.{sum_by}
 use Rattle.std.proofs.lemmas.Bool.{cases_lt}
-use Rattle.std.proofs.lemmas.List.Sums.{sum_by-le-sum_by}
 use Rattle.cursor_word.specs.Shape.{Grid, IsWithinLimits}
 use Rattle.cursor_word.specs.Cursor.{cursor, cursor_of, place_at}
 use Rattle.cursor_word.specs.declared.cursor.Cursor.{Cursor}
 use Rattle.cursor_word.proofs.Places.{block_of_place_from, cursor_of_place, first_after, first_to, offset_of_place, place_in_block, place_of_cursor}
 use Rattle.put_side.specs.Cursors.{Front, place}
-use Rattle.put_side.specs.Counts.{makes, one_at, one_below, sum_below, times}
+use Rattle.put_side.specs.Counts.{makes, one_at, sum_below, times}
 use Rattle.put_side.proofs.Sums.{none_from, one_to, times-cons, upto_bump, upto_from, upto_none, upto_same}
 use Rattle.put_side.proofs.Gathers.{times_all}
 use Rattle.put_side.specs.Gathered.{all_made}
@@ -18,10 +17,9 @@ use Rattle.rail.specs.declared.entry.Placed.{Placed}
 use Rattle.std.proofs.lemmas.List.{length-map}
 use Rattle.std.proofs.lemmas.List.Concat.{length-flat_map}
 use Rattle.put_side.proofs.Facts.{allocated_to}
-use Rattle.put_side.proofs.Frames as put_frames
+use Rattle.put_side.proofs.Moments.{made_within}
 use Rattle.sole_core.specs.Types.{View}
-use Rattle.sole_core.specs.Stage.{stage_of}
-use Rattle.sole_core.specs.Counts.{claims}
+use Rattle.sole_core.specs.Stage.{stage}
 use Rattle.sole_core.specs.Sound.{IsSoundAt}
 
 -- numbers below n stand in a list as often as it is long at most
@@ -74,16 +72,9 @@ module _ (g : Grid) (limits : IsWithinLimits g) where
       omega arith
 
 module _ (g : Grid) (limits : IsWithinLimits g) (front : Front) (next : ℕ) (ws : List ℕ) (vs : List View) (s : IsSoundAt g front next ws vs) where
-  -- each place is made at most once, and only if it is allocated
-  pub made_once : (q : ℕ) → sum_by (makes q) vs ≤ one_below q front.next
-  made_once q = let m = sum_by-le-sum_by (makes q) (claims g q) vs (put_frames.makes_le stage_of g q) in let o = s.puts.places.counts.once q in omega arith
-
-  pub each_once : (k o : ℕ) → sum_by (makes (place g k o)) vs ≤ 1
-  each_once k o = let m = made_once (place g k o) in let z = one_to (place g k o) front.next in omega arith
-
   -- what is taken is allocated
   pub taken_within : next ≤ front.next
-  taken_within = ⊎_elim (λ l. let m = made_once front.next in let r = s.made front.next l in let z = none_from front.next front.next (omega arith) in absurd (omega arith)) (λ l. l) (cases_lt front.next next)
+  taken_within = ⊎_elim (λ l. let m = made_within stage g front ws vs s.puts front.next in let r = s.made front.next l in let z = none_from front.next front.next (omega arith) in absurd (omega arith)) (λ l. l) (cases_lt front.next next)
 
   -- the next place lies in a block that is opened, or in the first that isn't
   pub opened_or_next : (cursor_of g next).block ≤ front.last + 1

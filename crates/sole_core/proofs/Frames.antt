@@ -10,9 +10,10 @@ use Rattle.rail.specs.Outcome.{numbers_below}
 use Rattle.machine.proofs.Lists.{get_set}
 use Rattle.put_side.specs.Cursors.{Front, committed_word, consumed_word}
 use Rattle.put_side.specs.PutSide.{PutSide}
+use Rattle.put_side.specs.declared.put_phase.PutPhase.TheVariants.{OpenM}
 use Rattle.put_side.proofs.Made.{KeepsMade}
 use Rattle.sole_core.specs.declared.phase.SolePhase.{SolePhase}
-use Rattle.sole_core.specs.declared.phase.SolePhase.TheVariants.{OpenM, Take}
+use Rattle.sole_core.specs.declared.phase.SolePhase.TheVariants.{Put, Take}
 use Rattle.sole_core.specs.declared.take_phase.SoleTake.{SoleTake}
 use Rattle.sole_core.specs.declared.take_phase.SoleTake.TheVariants.{Com, All, Word, Consume}
 use Rattle.sole_core.specs.Types.{View}
@@ -36,7 +37,7 @@ module _ (g : Grid) (ws ws' : List ℕ) (vs vs' : List View) (later : IsLater g 
 
   -- what a seat remembers lasts; that an entry is taken touches the consumer alone
   pub knows_later : (next next' : ℕ) (read : List ℕ) (ph : Option SolePhase) → ((q : SoleTake) → ph ≡ Some (Take q) → next' ≡ next) → Knows g (scene g next ws vs) read ph → Knows g (scene g next' ws' vs') read ph
-  knows_later next next' read (Some (OpenM full)) same f = let e = later.consumed (full.block + 1) in omega (arith, f)
+  knows_later next next' read (Some (Put (OpenM full))) same f = let e = later.consumed (full.block + 1) in omega (arith, f)
   knows_later next next' read (Some (Take q)) same f = subst (λ (n : ℕ). Knows g (scene g n ws' vs') read (Some (Take q))) (sym (same q refl)) (f.0, take_later next read q f.1)
   knows_later next next' read ph same f = tt
 

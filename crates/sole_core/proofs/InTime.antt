@@ -27,7 +27,7 @@ use Rattle.sole_core.specs.Stage.{stage}
 use Rattle.sole_core.specs.Table.{table}
 use Rattle.sole_core.specs.PutSteps.{after}
 use Rattle.sole_core.specs.Sound.{IsSound}
-use Rattle.sole_core.proofs.PutSteps.{puts}
+use Rattle.sole_core.proofs.Shares.{puts}
 use Rattle.sole_core.proofs.Reached.{dense, moment_sound}
 use Rattle.sole_core.proofs.Shown.{empty_there}
 use Rattle.sole_core.proofs.Takings.{taken_once}

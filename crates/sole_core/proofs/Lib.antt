@@ -1,4 +1,4 @@
-pub mod PutSteps
+pub mod Shares
 pub mod Frames
 pub mod Facts
 pub mod Loads
@@ -21,7 +21,6 @@ pub mod Trails
 pub mod CallTable
 pub mod Promised
 pub mod InTime
-pub mod CallKinds
 pub mod Lone
 pub mod LoneSteps
 pub mod Alone

@@ -18,15 +18,15 @@ use Rattle.machine.specs.declared.event.Start.{Start}
 use Rattle.machine.specs.declared.event.Start.TheVariants as start
 use Rattle.machine.specs.Steps as steps
 use Rattle.machine.specs.Steps.{IsWide, Suits, begun, finds, view_after, words_after}
-use Rattle.machine.specs.Moments.{BeginsCall, EndsAt, IsCall, IsDoneAlone, IsMidCall, IsOverlapped, IsUnmixed, answer_in, moment, phase_in, phase_of}
-use Rattle.machine.proofs.Lists.{all_at, get_set, get_set_other, get_set_same, set_again, set_twice}
+use Rattle.machine.specs.Moments.{EndsAt, IsCall, IsDoneAlone, IsMidCall, IsOverlapped, IsUnmixed, moment, phase_in, phase_of}
+use Rattle.machine.proofs.Lists.{all_at, get_set, get_set_other, get_set_same, set_again}
 use Rattle.machine.proofs.Runs.{moment_total}
 use Rattle.machine.proofs.Calls.{phase_stays, rest_at, unmixed, view_at}
 use Rattle.machine.proofs.Schedules.{ends_done}
 use Rattle.std.proofs.lemmas.Bool.{cases_eq, cases_lt}
-use Rattle.machine.proofs.Lone.{Comes, IsLoneRule, answers_alone, overlaps}
+use Rattle.machine.proofs.Lone.{IsLoneRule, answers_alone, overlaps}
 use Rattle.sole_core.specs.Types.{After, MachineState, View}
-use Rattle.sole_core.specs.Table.{table}
+use Rattle.sole_core.specs.Table.{MayBegin, table}
 use Rattle.sole_core.specs.declared.phase.SolePhase.{SolePhase}
 use Rattle.sole_core.specs.PutSteps.{after, first_put}
 use Rattle.sole_core.specs.TakeSteps.{committed_or_not, empty, first_take, next_cursor}
@@ -40,25 +40,20 @@ use Rattle.put_side.proofs.Begins.{begins_away}
 use Rattle.put_side.proofs.Made.{made_same}
 use Rattle.sole_core.specs.Alone.{AnswersAlone, GoesOnAlone, IsAlone, IsStill}
 use Rattle.sole_core.specs.Rest.{AnsweredAsOne, AnswersAsOne}
-use Rattle.sole_core.proofs.CallKinds.{OfCall, call_stays}
+use Rattle.put_side.proofs.CallKinds.{IsOfCall}
+use Rattle.put_side.proofs.LoneCalls as lone
+use Rattle.sole_core.proofs.CallTable.{call_table}
 use Rattle.sole_core.proofs.AloneCalls.{begun_total, goes_alone, put_alone, take_alone}
 use Rattle.sole_core.proofs.Frames.{quiet}
-use Rattle.sole_core.proofs.Loads.{by_equal, pick_equal, pick_less, seen_by}
+use Rattle.put_side.proofs.Choices.{by_equal, pick_equal, pick_less}
+use Rattle.put_side.proofs.TakeWords.{seen_by}
 use Rattle.sole_core.proofs.Starts.{begins_manned}
 use Rattle.sole_core.proofs.Reached.{moment_sound}
 
--- the seat is alone in a call that was begun so
-record LoneState (g : Grid) (n t seat : ℕ) (begins : Start) (w : MachineState) (p : SolePhase) : Type 0 where
-  view : View
-  at : slice_get w.views seat ≡ Some view
-  is : view.phase ≡ Some p
-  alone : IsAlone g n t w.words w.views seat p
-  kind : OfCall begins (Next p)
-
-answers_kind : (g : Grid) (n t : ℕ) (begins : Start) (a : Answer) → OfCall begins (Done a) → AnswersAlone g n t a → AnswersAsOne g n t begins (Some a)
+answers_kind : (g : Grid) (n t : ℕ) (begins : Start) (a : Answer) → IsOfCall table begins (Done a) → AnswersAlone g n t a → AnswersAsOne g n t begins (Some a)
 answers_kind g n t (start.Put entry) (answer.Put p) kind h = h
-answers_kind g n t (start.Put entry) (answer.Take q) kind h = absurd kind
-answers_kind g n t start.Take (answer.Put p) kind h = absurd kind
+answers_kind g n t (start.Put entry) (answer.Take q) kind h = cc
+answers_kind g n t start.Take (answer.Put p) kind h = cc
 answers_kind g n t start.Take (answer.Take q) kind h = h
 answers_kind g n t start.Go a kind h = absurd kind
 
@@ -72,55 +67,30 @@ rests_again g front next ws vs id v v' s at rest rest' made taken entry =
     (λ q h. let z = sym rest' ∙ h in cc)
 
 module _ (g : Grid) (n t seat : ℕ) (begins : Start) where
-  abbrev ComesTo : MachineState → Type 0
-  ComesTo w = Comes seat (AnswersAsOne g n t begins) (LoneState g n t seat begins) w
+  abbrev Alone : List ℕ → List View → SolePhase → Type 0
+  Alone ws vs p = IsAlone g n t ws vs seat p
 
-  settles : (ws : List ℕ) (vs : List View) (v v' : View) (b : After) → slice_get vs seat ≡ Some v → v'.phase ≡ steps.phase_after b → v'.answer ≡ steps.answer_after v.answer b → OfCall begins b
-      → GoesOnAlone g n t ws (slice_set vs seat v') seat b → ComesTo (record { words = ws; views = slice_set vs seat v' })
-  settles ws vs v v' (Next p) at ph an kind h = inl (p, record { view = v'; at = get_set_same vs seat v v' at; is = ph; alone = h; kind = kind })
-  settles ws vs v v' (Done a) at ph an kind h =
-      let here : slice_get (slice_set vs seat v') seat ≡ Some v' = get_set_same vs seat v v' at in
-      inr (ap phase_in here ∙ ph, subst (AnswersAsOne g n t begins) (sym (ap answer_in here ∙ an)) (answers_kind g n t begins a kind h.0))
+  abbrev Lone : MachineState → SolePhase → Type 0
+  Lone = lone.LoneState table call_table g seat begins Alone (AnswersAlone g n t) (AnswersAsOne g n t begins) (answers_kind g n t begins)
 
-  module _ (limits : IsWithinLimits g) (room : n ≤ place_span g) where
-    -- a turn of the seat
-    own_moves : (ws : List ℕ) (vs : List View) (v : View) (p : SolePhase) → IsAlone g n t ws vs seat p → OfCall begins (Next p) → slice_get vs seat ≡ Some v → v.phase ≡ Some p
-        → ComesTo (record { words = words_after table g ws v p; views = slice_set vs seat (view_after table g ws v p) })
-    own_moves ws vs v p alone kind at e =
-        settles (words_after table g ws v p) vs v (view_after table g ws v p) (after g p (finds table g ws v p)) at refl refl (call_stays g begins p _ kind) (goes_alone g n t ws vs seat v p limits alone room at e)
+  abbrev GoesAlone : List ℕ → List View → After → Type 0
+  GoesAlone = lone.GoesAlone table call_table g seat begins Alone (AnswersAlone g n t) (AnswersAsOne g n t begins) (answers_kind g n t begins)
 
-    own_turn : (w : MachineState) (v : View) (s : Start) (p : SolePhase) (ph : Option SolePhase) → IsAlone g n t w.words w.views seat p → OfCall begins (Next p) → slice_get w.views seat ≡ Some v → v.phase ≡ ph → ph ≡ Some p
-        → (let m = steps.moves table g w.words (steps.begun table g v ph s) (steps.begun table g v ph s).phase in ComesTo (record { words = m.words; views = slice_set w.views seat m.view }))
-    own_turn w v s p None alone kind at e is = cc
-    own_turn w v s p (Some q) alone kind at e is =
-        subst (λ (o : Option SolePhase). (let m = steps.moves table g w.words v o in ComesTo (record { words = m.words; views = slice_set w.views seat m.view }))) (sym (e ∙ is)) (own_moves w.words w.views v p alone kind at (e ∙ is))
+  goes_so : (ws : List ℕ) (vs : List View) (b : After) → GoesOnAlone g n t ws vs seat b → GoesAlone ws vs b
+  goes_so ws vs (Next p) h = h
+  goes_so ws vs (Done a) h = h.0
 
-    own_step : (w : MachineState) (p : SolePhase) (s : Start) → LoneState g n t seat begins w p → ComesTo (steps.turn table g w seat s (slice_get w.views seat))
-    own_step w p s l =
-        subst (λ (o : Option View). ComesTo (steps.turn table g w seat s o)) (sym l.at) (own_turn w l.view s p l.view.phase l.alone l.kind l.at refl l.is)
-
-    -- the first step of a call that is begun where all seats are at rest
-    begins_lone : (w : MachineState) (v : View) (s : Start) (ph : Option SolePhase) → s ≡ begins → IsStill g n t w.words w.views → slice_get w.views seat ≡ Some v → v.phase ≡ ph → ph ≡ None → BeginsCall s → Suits table g (record { seat = seat; start = s })
-        → (let m = steps.moves table g w.words (steps.begun table g v ph s) (steps.begun table g v ph s).phase in ComesTo (record { words = m.words; views = slice_set w.views seat m.view }))
-    begins_lone w v s (Some p) same still at e none is wide = cc
-    begins_lone w v (start.Put entry) None same still at e none is may =
-        let v' : View = begun table g v None (start.Put entry) in
-        subst (λ (vs : List View). ComesTo (record { words = words_after table g w.words v' first_put; views = vs })) (set_twice w.views seat v' (view_after table g w.words v' first_put))
-        (own_moves w.words (slice_set w.views seat v') v' first_put (put_alone g limits n t w.words w.views seat v still at entry may.wide) (subst (λ (b : Start). OfCall b (Next first_put)) same tt) (get_set_same w.views seat v v' at) refl)
-    begins_lone w v start.Take None same still at e none is may =
-        let v' : View = begun table g v None start.Take in
-        let first : SolePhase = first_take g v.taken in
-        subst (λ (vs : List View). ComesTo (record { words = words_after table g w.words v' first; views = vs })) (set_twice w.views seat v' (view_after table g w.words v' first))
-        (own_moves w.words (slice_set w.views seat v') v' first (take_alone g limits n t w.words w.views seat v still at may.may_begin) (subst (λ (b : Start). OfCall b (Next first)) same tt) (get_set_same w.views seat v v' at) refl)
-    begins_lone w v start.Go None same still at e none is may = absurd is
+  goes : IsWithinLimits g → n ≤ place_span g → (ws : List ℕ) (vs : List View) (v : View) (p : SolePhase) → Alone ws vs p → slice_get vs seat ≡ Some v → v.phase ≡ Some p
+      → GoesAlone (words_after table g ws v p) (slice_set vs seat (view_after table g ws v p)) (after g p (finds table g ws v p))
+  goes limits room ws vs v p alone at e = goes_so _ _ (after g p (finds table g ws v p)) (goes_alone g n t ws vs seat v p limits alone room at e)
 
   -- another seat's turn
   abbrev AfterOther : MachineState → SolePhase → ℕ → Type 0
-  AfterOther w p other = LoneState g n t seat begins w p ⊎ IsMidCall (phase_in (slice_get w.views other))
+  AfterOther w p other = Lone w p ⊎ IsMidCall (phase_in (slice_get w.views other))
 
   -- it ended a call by its first step, with nothing made or taken
-  other_rests : (w : MachineState) (p : SolePhase) (other : ℕ) (u v' : View) → other ≢ seat → LoneState g n t seat begins w p → slice_get w.views other ≡ Some u → u.phase ≡ None → v'.phase ≡ None → v'.made ≡ u.made → v'.taken ≡ u.taken → v'.entry ≡ u.entry
-      → LoneState g n t seat begins (record { words = w.words; views = slice_set w.views other v' }) p
+  other_rests : (w : MachineState) (p : SolePhase) (other : ℕ) (u v' : View) → other ≢ seat → Lone w p → slice_get w.views other ≡ Some u → u.phase ≡ None → v'.phase ≡ None → v'.made ≡ u.made → v'.taken ≡ u.taken → v'.entry ≡ u.entry
+      → Lone (record { words = w.words; views = slice_set w.views other v' }) p
   other_rests w p other u v' apart l at rest rest' made taken entry =
       let a = l.alone in
       record {
@@ -144,7 +114,7 @@ module _ (g : Grid) (n t seat : ℕ) (begins : Start) where
   other_mid : (w : MachineState) (p : SolePhase) (other : ℕ) (ws : List ℕ) (u v' : View) (q : SolePhase) → slice_get w.views other ≡ Some u → v'.phase ≡ Some q → AfterOther (record { words = ws; views = slice_set w.views other v' }) p other
   other_mid w p other ws u v' q at is = inr (subst IsMidCall (sym (ap phase_in (get_set_same w.views other u v' at) ∙ is)) tt)
 
-  other_take : (w : MachineState) (p : SolePhase) (other : ℕ) (u : View) → other ≢ seat → LoneState g n t seat begins w p → slice_get w.views other ≡ Some u → u.phase ≡ None
+  other_take : (w : MachineState) (p : SolePhase) (other : ℕ) (u : View) → other ≢ seat → Lone w p → slice_get w.views other ≡ Some u → u.phase ≡ None
       → (let b = begun table g u None start.Take in let first = first_take g u.taken in AfterOther (record { words = words_after table g w.words b first; views = slice_set w.views other (view_after table g w.words b first) }) p other)
   other_take w p other u apart l at rest =
       let b : View = begun table g u None start.Take in
@@ -157,17 +127,17 @@ module _ (g : Grid) (n t seat : ℕ) (begins : Start) where
       subst (λ (ws : List ℕ). AfterOther (record { words = ws; views = slice_set w.views other (seen_by b (committed_or_not g r x) [] x) }) p other) (sym (set-get_or w.words i 0))
       (pick_equal P x (packed r) _ _ (λ e. none) (λ ne. pick_less P (x / offset_span) r.block _ _ (λ less. none) (λ ge. pick_equal P (x % offset_span) g.size _ _ (λ e. on _) (λ e. on _))))
 
-  other_moves : (w : MachineState) (p : SolePhase) (other : ℕ) (u : View) (s : Start) (ph : Option SolePhase) → other ≢ seat → LoneState g n t seat begins w p → slice_get w.views other ≡ Some u → u.phase ≡ ph → ph ≡ None
+  other_moves : (w : MachineState) (p : SolePhase) (other : ℕ) (u : View) (s : Start) (ph : Option SolePhase) → other ≢ seat → Lone w p → slice_get w.views other ≡ Some u → u.phase ≡ ph → ph ≡ None
       → (let m = steps.moves table g w.words (begun table g u ph s) (begun table g u ph s).phase in AfterOther (record { words = m.words; views = slice_set w.views other m.view }) p other)
   other_moves w p other u s (Some q) apart l at e none = cc
   other_moves w p other u (start.Put entry) None apart l at e none = other_mid w p other _ u _ _ at refl
   other_moves w p other u start.Take None apart l at e none = other_take w p other u apart l at e
   other_moves w p other u start.Go None apart l at e none =
       subst (λ (o : Option SolePhase). (let m = steps.moves table g w.words u o in AfterOther (record { words = m.words; views = slice_set w.views other m.view }) p other)) (sym e)
-      (inl (subst (λ (vs : List View). LoneState g n t seat begins (record { words = w.words; views = vs }) p) (sym (set_again w.views other u at)) l))
+      (inl (subst (λ (vs : List View). Lone (record { words = w.words; views = vs }) p) (sym (set_again w.views other u at)) l))
 
-  other_view : (w : MachineState) (p : SolePhase) (other : ℕ) (s : Start) (o : Option View) → other ≢ seat → LoneState g n t seat begins w p → slice_get w.views other ≡ o → AfterOther (steps.turn table g w other s (slice_get w.views other)) p other
-  other_view w p other s None apart l at = inl (subst (λ (o : Option View). LoneState g n t seat begins (steps.turn table g w other s o) p) (sym at) l)
+  other_view : (w : MachineState) (p : SolePhase) (other : ℕ) (s : Start) (o : Option View) → other ≢ seat → Lone w p → slice_get w.views other ≡ o → AfterOther (steps.turn table g w other s (slice_get w.views other)) p other
+  other_view w p other s None apart l at = inl (subst (λ (o : Option View). Lone (steps.turn table g w other s o) p) (sym at) l)
   other_view w p other s (Some u) apart l at = subst (λ (o : Option View). AfterOther (steps.turn table g w other s o) p other) (sym at) (other_moves w p other u s u.phase apart l at refl (l.alone.others other u apart at))
 
 module _ (g : Grid) (events : List Event) (limits : IsWithinLimits g) (suits : AllByRecursion (Suits table g) events) (few : length events < most_puts g) where
@@ -188,15 +158,17 @@ module _ (g : Grid) (events : List Event) (limits : IsWithinLimits g) (suits : A
         let N : ℕ = made_total w.views in
         let T : ℕ = taken_total w.views in
         let room : N ≤ place_span g = moment_total table g events n few in
-        let rule : IsLoneRule table g seat begins (AnswersAsOne g N T begins) (LoneState g N T seat begins) w =
+        let rule : IsLoneRule table g seat begins (AnswersAsOne g N T begins) (Lone g N T seat begins) w =
         record {
-          first = subst (λ (o : Option View). ComesTo g N T seat begins (steps.turn table g w seat begins o)) (sym v.1)
-              (begins_lone g N T seat begins limits room w v.0 begins v.0.phase refl (still_at n rest) v.1 refl (ap phase_in (sym v.1) ∙ call.rested) call.is_begun own_event);
+          first = lone.first_step table call_table g seat begins (Alone g N T seat begins) (AnswersAlone g N T) (AnswersAsOne g N T begins) (answers_kind g N T begins) (goes g N T seat begins limits room) w v.0 v.1
+              (λ entry is. put_alone g limits N T w.words w.views seat v.0 (still_at n rest) v.1 entry (subst (IsWide g) is own_event.wide))
+              (λ is. take_alone g limits N T w.words w.views seat v.0 (still_at n rest) v.1 (subst (MayBegin g seat) is own_event.may_begin))
+              (ap phase_in (sym v.1) ∙ call.rested) call.is_begun;
           stands = λ w p l. ap phase_in l.at ∙ l.is;
-          own = λ w p s l. own_step g N T seat begins limits room w p s l;
+          own = lone.own_step table call_table g seat begins (Alone g N T seat begins) (AnswersAlone g N T) (AnswersAsOne g N T begins) (answers_kind g N T begins) (goes g N T seat begins limits room);
           other = λ w p j s apart l. other_view g N T seat begins w p j s (slice_get w.views j) apart l refl;
         } in
-        answers_alone table g events seat n m begins call (AnswersAsOne g N T begins) (LoneState g N T seat begins) rule alone
+        answers_alone table g events seat n m begins call (AnswersAsOne g N T begins) (Lone g N T seat begins) rule alone
 
     pub alone_answers : IsDoneAlone table g events seat n m → AnsweredAsOne g events seat n m begins
     alone_answers alone = rested_answers alone.rest (unmixed table g events seat n m alone)

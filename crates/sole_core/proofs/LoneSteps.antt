@@ -1,19 +1,19 @@
 -- A step of a seat that is alone: how it goes on, or comes to rest.
-use Rattle.std.proofs.Common.{◌≡◌, ℕ, ◌+◌, ◌/◌, ◌<◌, ◌≤◌, List, [], length, sym, ap, ◌∙◌, subst, ⊎_elim, arith}
+use Rattle.std.proofs.Common.{◌≡◌, ℕ, ◌+◌, ◌<◌, ◌≤◌, List, length, sym, ap, ◌∙◌, subst, ⊎_elim, arith}
 use Rattle.std.specs.Prelude.{Some, None, slice_get, slice_set, slice_index}
-use Rattle.std.specs.List.{sum_by}
 use Rattle.std.proofs.lemmas.List.{set-get_or}
 use Rattle.cursor_word.specs.Shape.{Grid, IsWithinLimits}
-use Rattle.cursor_word.specs.Cursor.{most_block, offset_span, place_span}
+use Rattle.cursor_word.specs.Cursor.{most_block, place_span}
 use Rattle.rail.specs.declared.entry.Placed.{Placed}
 use Rattle.machine.specs.Invariant.{made_count, made_total}
 use Rattle.machine.specs.Steps.{finds, view_after, words_after}
-use Rattle.machine.proofs.Lists.{get_set, get_set_other, sum_set}
-use Rattle.put_side.specs.Cursors.{Front, allocated_word, put_cursors}
+use Rattle.machine.proofs.Lists.{get_set}
+use Rattle.put_side.specs.Cursors.{Front, put_cursors}
 use Rattle.put_side.specs.Manned as put_work
-use Rattle.put_side.specs.Counts.{makes, one_below}
-use Rattle.put_side.specs.Stages as stages
-use Rattle.put_side.specs.Stages.{PutStage}
+use Rattle.put_side.specs.Alone.{OthersRest, PutAlone}
+use Rattle.put_side.specs.PutTable.{stage_in}
+use Rattle.put_side.proofs.AlonePuts.{IsPutHere}
+use Rattle.put_side.proofs.Lone.{others_still, total_grows}
 use Rattle.sole_core.specs.declared.phase.SolePhase.{SolePhase}
 use Rattle.sole_core.specs.Types.{After, View}
 use Rattle.sole_core.specs.PutSteps.{after}
@@ -21,9 +21,9 @@ use Rattle.sole_core.specs.Table.{table}
 use Rattle.sole_core.specs.Stage.{stage, stage_of}
 use Rattle.sole_core.specs.Counts.{taken_count, taken_total}
 use Rattle.sole_core.specs.Sound.{IsSoundAt}
-use Rattle.sole_core.specs.Alone.{GoesOnAlone, IsAlone, IsStill, LoneKnows, OthersRest}
-use Rattle.sole_core.proofs.Loads.{seen_by}
-use Rattle.sole_core.proofs.Lone.{IsOnly, allocated_is, allocated_number, held, made_is, only_one, opens_allocated, producer_is, raises_producer}
+use Rattle.sole_core.specs.Alone.{GoesOnAlone, IsAlone, IsStill, LoneKnows}
+use Rattle.put_side.proofs.TakeWords.{seen_by}
+use Rattle.sole_core.specs.declared.phase.SolePhase.TheVariants.{Put, SeeX, Take}
 use Rattle.sole_core.proofs.Takings.{taken_number}
 use Rattle.sole_core.proofs.Steps.{IsAfter, step_at}
 
@@ -39,21 +39,16 @@ pub record IsHere (g : Grid) (n t : ℕ) (front : Front) (next : ℕ) (ws : List
   pub others : OthersRest vs id
   pub made : made_total vs ≡ n
   pub taken : taken_total vs ≡ t
-  pub knows : LoneKnows g front.last n ws p
+  pub knows : LoneKnows g n ws p
 
 abbrev pub Goes : Grid → ℕ → ℕ → List ℕ → List View → ℕ → View → SolePhase → Type 0
 Goes g n t ws vs id v p = GoesOnAlone g n t (words_after table g ws v p) (slice_set vs id (view_after table g ws v p)) id (after g p (finds table g ws v p))
 
--- a phase whose step opens no block
-abbrev pub IsNoOpenM : PutStage → Type 0
-IsNoOpenM (stages.OpenM full) = ⊥
-IsNoOpenM s = Unit {0}
-
-others_still : (vs : List View) (id : ℕ) (v' : View) → OthersRest vs id → OthersRest (slice_set vs id v') id
-others_still vs id v' rest j u d e = rest j u d (sym (get_set_other vs id j v' d) ∙ e)
-
-total_grows : (f : View → ℕ) (vs : List View) (id d n : ℕ) (v v' : View) → slice_get vs id ≡ Some v → f v' ≡ f v + d → sum_by f vs ≡ n → sum_by f (slice_set vs id v') ≡ n + d
-total_grows f vs id d n v v' at e total = let z = sum_set f vs id v v' at in omega arith
+-- what it knows as a put
+put_knows : (g : Grid) (n : ℕ) (ws : List ℕ) (p : SolePhase) → LoneKnows g n ws p → PutAlone g n ws (stage p)
+put_knows g n ws (Put q) h = h
+put_knows g n ws (SeeX full) h = h
+put_knows g n ws (Take q) h = tt
 
 module _ {g : Grid} {n t : ℕ} {front : Front} {next : ℕ} {ws : List ℕ} {vs : List View} {id : ℕ} {v : View} {p : SolePhase} (h : IsHere g n t front next ws vs id v p) where
   -- the state after the step
@@ -61,7 +56,7 @@ module _ {g : Grid} {n t : ℕ} {front : Front} {next : ℕ} {ws : List ℕ} {vs
   next_of = step_at g h.limits front next ws vs h.sound h.manned h.small h.room id v h.at p h.phase
 
   -- a step after which the seat goes on
-  pub go_further : {ws' : List ℕ} {q : SolePhase} (v' : View) (k : IsAfter g p front next ws' (slice_set vs id v')) → v'.made ≡ v.made → v'.taken ≡ v.taken → LoneKnows g k.front'.last n ws' q → IsAlone g n t ws' (slice_set vs id v') id q
+  pub go_further : {ws' : List ℕ} {q : SolePhase} (v' : View) (k : IsAfter g p front next ws' (slice_set vs id v')) → v'.made ≡ v.made → v'.taken ≡ v.taken → LoneKnows g n ws' q → IsAlone g n t ws' (slice_set vs id v') id q
   go_further v' k made taken knows = record {
     front = k.front';
     next = k.next';
@@ -73,15 +68,10 @@ module _ {g : Grid} {n t : ℕ} {front : Front} {next : ℕ} {ws : List ℕ} {vs
     knows = knows;
   }
 
-  -- where it opens no block; and one of them that loads a word
-  pub go_on : {ws' : List ℕ} {q : SolePhase} (v' : View) → IsNoOpenM (stage p) → IsAfter g p front next ws' (slice_set vs id v') → v'.made ≡ v.made → v'.taken ≡ v.taken → LoneKnows g front.last n ws' q → IsAlone g n t ws' (slice_set vs id v') id q
-  go_on {ws' = ws'} {q = q} v' none k made taken knows =
-      let f : front.last ≡ k.front'.last = ⊎_elim (λ e. sym e) (λ o. absurd (subst IsNoOpenM o.opens none)) k.opened in
-      go_further v' k made taken (subst (λ (j : ℕ). LoneKnows g j n ws' q) f knows)
-
-  pub load_on : {q : SolePhase} (i : ℕ) (v' : View) → IsNoOpenM (stage p) → IsAfter g p front next (slice_set ws i (slice_index ws i)) (slice_set vs id v') → v'.made ≡ v.made → v'.taken ≡ v.taken → LoneKnows g front.last n ws q
+  -- and one of them that loads a word
+  pub load_on : {q : SolePhase} (i : ℕ) (v' : View) (k : IsAfter g p front next (slice_set ws i (slice_index ws i)) (slice_set vs id v')) → v'.made ≡ v.made → v'.taken ≡ v.taken → LoneKnows g n ws q
       → IsAlone g n t (slice_set ws i (slice_index ws i)) (slice_set vs id v') id q
-  load_on {q = q} i v' none k made taken knows = go_on v' none k made taken (subst (λ (w : List ℕ). LoneKnows g front.last n w q) (sym (set-get_or ws i 0)) knows)
+  load_on {q = q} i v' k made taken knows = go_further v' k made taken (subst (λ (w : List ℕ). LoneKnows g n w q) (sym (set-get_or ws i 0)) knows)
 
   -- the step that answers
   pub come_to_rest : {ws' : List ℕ} (m d : ℕ) (v' : View) → IsAfter g p front next ws' (slice_set vs id v') → v'.phase ≡ None → length v'.made ≡ length v.made + m → length v'.taken ≡ length v.taken + d → IsStill g (n + m) (t + d) ws' (slice_set vs id v')
@@ -100,20 +90,8 @@ module _ {g : Grid} {n t : ℕ} {front : Front} {next : ℕ} {ws : List ℕ} {vs
   Follows ws' x read b = IsAfter g p front next ws' (slice_set vs id (seen_by v b read x)) → GoesOnAlone g n t ws' (slice_set vs id (seen_by v b read x)) id b
 
   -- what the words and the counts tell a seat alone
-  only_here : IsOnly vs (Some p)
-  only_here = only_one vs id v (Some p) h.others h.at h.phase
-
-  pub head_is : raises_producer front.last (Some p) ≡ 0 → slice_index ws 0 ≡ front.last
-  head_is z = producer_is g front next ws vs (Some p) h.limits h.sound h.manned only_here z
-
-  pub front_is : opens_allocated front.last (Some p) ≡ 0 → allocated_word g ws front.last / offset_span ≡ front.last
-  front_is z = allocated_is g front next ws vs (Some p) h.limits h.sound h.manned only_here z
-
-  pub accepted_is : front.next ≡ n + length (held g (Some p))
-  accepted_is = let e = allocated_number g front next ws vs (Some p) h.limits h.sound h.manned only_here in let m = h.made in omega arith
+  pub put_here : IsPutHere stage g n front ws vs id v (stage p)
+  put_here = record { limits = h.limits; side = h.sound.puts; manned = h.manned; at = h.at; stands = ap (stage_in stage) h.phase; others = h.others; made = h.made; knows = put_knows g n ws p h.knows }
 
   pub given_is : next ≡ t
   given_is = sym (taken_number g front next ws vs h.sound) ∙ h.taken
-
-  pub made_once : held g (Some p) ≡ [] → (q : ℕ) → sum_by (makes q) vs ≡ one_below q front.next
-  made_once none q = made_is g front next ws vs (Some p) h.limits h.sound h.manned only_here none q

@@ -1,12 +1,12 @@
 -- What each step tells of the answer that it gives.
-use Rattle.std.proofs.Common.{◌≡◌, ◌≢◌, ℕ, zero, suc, ◌+◌, ◌-◌, ◌/◌, ◌%◌, ◌<◌, ◌≤◌, min, List, [], ◌∷◌, ◌++◌, refl, sym, ap, ◌∙◌, subst, inl, inr, ⊎_elim, arith}
-use Rattle.std.specs.Prelude.{Option, Some, slice_get, if◌then◌else◌}
+use Rattle.std.proofs.Common.{◌≡◌, ◌≢◌, ℕ, zero, suc, ◌+◌, ◌-◌, ◌/◌, ◌%◌, ◌<◌, ◌≤◌, List, [], ◌∷◌, ◌++◌, sym, ap, ◌∙◌, subst, ⊎_elim, arith}
+use Rattle.std.specs.Prelude.{Some, slice_get, if◌then◌else◌}
 use Rattle.std.specs.List.{Contains, sum_by}
 use Rattle.std.specs.List as lists
 use Rattle.std.proofs.lemmas.Bool.{cases_lt}
 use Rattle.std.proofs.lemmas.List.Elements.{All-from_recursion}
 use Rattle.cursor_word.specs.Shape.{Grid, IsWithinLimits}
-use Rattle.cursor_word.specs.Cursor.{IsBefore, cursor, cursor_of, first_of, offset_span, packed, place_at, unpacked}
+use Rattle.cursor_word.specs.Cursor.{cursor_of, first_of, offset_span, packed, place_at, unpacked}
 use Rattle.cursor_word.specs.declared.cursor.Cursor.{Cursor}
 use Rattle.cursor_word.proofs.Blocks.{shifted}
 use Rattle.cursor_word.proofs.Places.{block_of_place_from, first_to, offset_of_place, place_in_block, place_of_cursor}
@@ -21,29 +21,34 @@ use Rattle.machine.specs.Steps.{finds}
 use Rattle.machine.proofs.Lists.{one_le_sum}
 use Rattle.put_side.specs.Cursors.{Front, allocated_word, committed_word, consumed_word, place, put_cursors}
 use Rattle.put_side.specs.Counts.{makes}
-use Rattle.put_side.specs.Places.{IsFilled, IsTurn, PutKnows}
-use Rattle.put_side.specs.Stages as stages
+use Rattle.put_side.specs.declared.put_phase.PutPhase.TheVariants.{OpenM}
+use Rattle.put_side.specs.Places.{IsFilled}
+use Rattle.put_side.specs.PutSteps.{older_full}
+use Rattle.put_side.specs.Stages.{Fills}
 use Rattle.put_side.specs.PutTable.{stage_in}
 use Rattle.put_side.proofs.Orders.{range_more}
 use Rattle.put_side.proofs.Sums.{by_test_le, none_from, one_in, rising_push, upto_from}
-use Rattle.put_side.proofs.Facts.{all_below, allocated_to, committed_below, filled_opened, found, physical, place_next, repacked}
+use Rattle.put_side.proofs.Facts.{all_below, allocated_to, filled_opened, physical}
+use Rattle.put_side.proofs.Full.{all_allocated, full_seen}
 use Rattle.put_side.proofs.Loads as put_loads
+use Rattle.put_side.proofs.PutOutcomes.{put_tells}
 use Rattle.put_side.proofs.SeatItems.{gains, not_among, own_item}
 use Rattle.sole_core.specs.declared.phase.SolePhase.{SolePhase}
-use Rattle.sole_core.specs.declared.phase.SolePhase.TheVariants.{HeadP, SeeA, AddA, Write, Commit, SeeX, OpenM, OpenA, RaiseP, Take}
+use Rattle.sole_core.specs.declared.phase.SolePhase.TheVariants.{Put, SeeX, Take}
 use Rattle.sole_core.specs.declared.take_phase.SoleTake.{SoleTake}
 use Rattle.sole_core.specs.declared.take_phase.SoleTake.TheVariants.{Com, All, Word, Consume}
 use Rattle.sole_core.specs.Types.{After, View, MachineState}
 use Rattle.sole_core.specs.Moments.{EmptyAt, FullAt}
 use Rattle.sole_core.specs.Causes.{Differ}
-use Rattle.sole_core.specs.PutSteps.{after, filled, older_consumed}
+use Rattle.sole_core.specs.PutSteps.{after}
 use Rattle.sole_core.specs.Table.{consumer, table}
 use Rattle.sole_core.specs.Stage.{stage, stage_of}
 use Rattle.sole_core.specs.Counts.{takes}
 use Rattle.sole_core.specs.Sound.{IsSound, IsSoundAt, cursor_in}
-use Rattle.sole_core.proofs.Facts.{made_once}
+use Rattle.put_side.proofs.Moments.{made_within}
 use Rattle.sole_core.proofs.Frames.{is_consumer}
-use Rattle.sole_core.proofs.Loads.{made_none, pick_equal, pick_less, pick_same}
+use Rattle.put_side.proofs.Choices.{pick_equal, pick_less, pick_same}
+use Rattle.put_side.proofs.TakeWords.{made_none}
 use Rattle.sole_core.proofs.TakeLoads.{committed_is, knows_at}
 use Rattle.sole_core.proofs.Takings.{taken_once, times_below}
 
@@ -59,10 +64,6 @@ Tells g w v (Done (answer.Take (take.Ok place))) =
 Tells g w v (Done (answer.Take (take.Empty place))) = EmptyAt w place × ((q : ℕ) → Contains (places v.made) q → q ≢ place) × lists.All (λ q. q < place) (places v.taken)
 Tells g w v (Done (answer.Take (take.Busy reason))) = Differ reason
 Tells g w v (Done (answer.Take (take.Overrun place now))) = ⊥
-
--- cursors whose words are in order are in order
-before_from : (c d : Cursor) → d.offset < offset_span → packed c < packed d → IsBefore c d
-before_from c d fits l = ⊎_elim (λ q. inl q) (λ q. inr (omega arith, omega arith)) (cases_lt c.block d.block)
 
 -- the numbers below n rise, and n is above them
 numbers_rise : (n : ℕ) → IsRising (numbers_below n)
@@ -84,36 +85,24 @@ module _ (g : Grid) (front : Front) (next : ℕ) (ws : List ℕ) (vs : List View
   abbrev c : Cursor
   c = cursor_of g next
 
-  -- all places up to the end of a filled block are allocated, and no other is, where the next block may not be opened
-  pub full_at : (full : Cursor) → IsFilled g (put_cursors g ws) full → consumed_word g ws (full.block + 1) < older_consumed g full.block → (front.last ≡ full.block) × (front.next ≡ place g (full.block + 1) 0)
-  full_at full f less =
-      let words = s.puts.places.words in
-      let to = filled_opened words limits.blocks_from (physical g ws 2) full f in
-      let k : front.last ≡ full.block = ⊎_elim
+  -- a filled block is the last one, where the next block may not be opened
+  pub full_last : (full : Cursor) → IsFilled g (put_cursors g ws) full → consumed_word g ws (full.block + 1) < older_full g full.block → front.last ≡ full.block
+  full_last full f less =
+      let to = filled_opened s.puts.places.words limits.blocks_from (physical g ws 2) full f in
+      ⊎_elim
       (λ n. let j : ℕ = full.block + 1 - g.blocks in
       let is : j + g.blocks ≡ full.block + 1 = omega (arith, f.from) in
       let z : consumed_word g ws j ≡ consumed_word g ws (full.block + 1) = physical g ws 5 j (full.block + 1) (shifted g.blocks j (full.block + 1) is) in
       let near = s.near in
       let o = s.takes.shown j (omega arith) in absurd (omega arith))
-      (λ n. omega arith) (cases_lt full.block front.last) in
-      let n = place_next g full.block f.from in
-      let known : packed full ≤ allocated_word g ws front.last = subst (λ (b : ℕ). packed full ≤ allocated_word g ws b) (sym k) f.known in
-      let end : front.next ≡ place g front.last g.size = ⊎_elim (λ q. let m : min (allocated_word g ws front.last % offset_span) g.size ≡ g.size = omega (arith, q.block, f.filled) in q.at ∙ ap (place g front.last) m) (λ q. absurd (omega (arith, q.older, limits.blocks_from))) words.newest in
-      (k, end ∙ ap (λ (b : ℕ). place g b g.size) k ∙ sym n)
+      (λ n. omega arith) (cases_lt full.block front.last)
 
-  full_seen : (full : Cursor) → IsFilled g (put_cursors g ws) full → consumed_word g ws (full.block + 1) < older_consumed g full.block → T (Done (answer.Put (put.Full full.block (unpacked (consumed_word g ws (full.block + 1))))))
-  full_seen full f less =
-      let q = full_at full f less in
-      let r = repacked (consumed_word g ws (full.block + 1)) in
-      let b = committed_below s.puts.places.words limits.blocks_from (physical g ws 3) (full.block + 1) in (
-        record {
-          from = f.from;
-          allocated = λ p l. let o = s.puts.places.counts.once p in let z = one_in p front.next (omega (arith, q.1)) in omega arith;
-          not_opened = omega (arith, q.0);
-          consumed = refl;
-          not_consumed = before_from _ (cursor (full.block + 1 - g.blocks) g.size) (omega (arith, limits.size_to)) (omega arith);
-        },
-        All-from_recursion (λ (q : ℕ). q < first_of g (full.block + 1)) (places v.made) (all_below (first_of g (full.block + 1)) (places v.made) (λ p l. made_none g front next ws vs s id v here p (omega (arith, q.1)))),
+  full_tells : (full : Cursor) → IsFilled g (put_cursors g ws) full → consumed_word g ws (full.block + 1) < older_full g full.block → T (Done (answer.Put (put.Full full.block (unpacked (consumed_word g ws (full.block + 1))))))
+  full_tells full f less =
+      let last = full_last full f less in
+      let all = all_allocated stage_of g limits front ws vs s.puts.places full f last in (
+        full_seen stage_of g limits front ws vs s.puts.places full f last less,
+        All-from_recursion (λ (q : ℕ). q < first_of g (full.block + 1)) (places v.made) (all_below (first_of g (full.block + 1)) (places v.made) (λ p l. made_none stage_of g front (put_cursors g ws) vs s.puts.places id v here p (omega (arith, all)))),
       )
 
   -- nothing was made at the next place
@@ -156,15 +145,8 @@ module _ (g : Grid) (front : Front) (next : ℕ) (ws : List ℕ) (vs : List View
       let to = allocated_to s.puts.places.words in
       ⊎_elim (λ l. let w = s.puts.places.words.committed c.block (omega arith) s.near in absurd (omega arith))
       (λ l. let t = first_to g (front.last + 1) c.block l in
-      let m = made_once g limits front next ws vs s next in let z = none_from next front.next (omega arith) in omega arith)
+      let m = made_within stage g front ws vs s.puts next in let z = none_from next front.next (omega arith) in omega arith)
       (cases_lt c.block (front.last + 1))
-
-  filled_tells : (turn : ℕ) (first : Cursor) (head old : ℕ) → IsTurn g turn first head → head ≤ old / offset_span → T (filled turn first (unpacked old))
-  filled_tells turn first head old f from = pick_equal T turn 1 _ _ (λ e. tt) (λ n. ⊎_elim (λ e. absurd (n e)) (λ q. omega (arith, q.below)) f)
-
-  -- what the side of puts remembers of the seat
-  stood : (p : SolePhase) → v.phase ≡ Some p → PutKnows g front.last (put_cursors g ws) (stage p)
-  stood p e = put_loads.knows_at stage_of g front ws vs id v v s.puts.places here (stage p) (ap (stage_in stage) e)
 
   abbrev TellsStep : SoleTake → Type 0
   TellsStep q = v.phase ≡ Some (Take q) → T (after g (Take q) (finds table g ws v (Take q)))
@@ -190,23 +172,10 @@ module _ (g : Grid) (front : Front) (next : ℕ) (ws : List ℕ) (vs : List View
   at_cursor q e = (knows_at g limits front next ws vs s id v here q e).0
 
   pub step_tells : (p : SolePhase) → v.phase ≡ Some p → T (after g p (finds table g ws v p))
-  step_tells (HeadP turn first) e = tt
-  step_tells (SeeA turn first head) e =
-      let f = stood (SeeA turn first head) e in
-      let is = found s.puts.places.words limits.blocks_from (physical g ws 2) head f.1.to in
-      pick_less T (allocated_word g ws head % offset_span) g.size _ _ (λ l. tt) (λ l. filled_tells turn first head (allocated_word g ws head) f.0 is.from)
-  step_tells (AddA turn first head) e =
-      let f = stood (AddA turn first head) e in
-      let is = found s.puts.places.words limits.blocks_from (physical g ws 2) head f.1.to in
-      pick_less T (allocated_word g ws head % offset_span) g.size _ _ (λ l. tt) (λ l. filled_tells turn first head (allocated_word g ws head) f.0 is.from)
-  step_tells (Write at count) e = pick_less T (count + 1) g.width _ _ (λ l. tt) (λ l. tt)
-  step_tells (Commit at) e = gains v.made (placed (place_at g at) v.entry) (subst IsRising (ap (λ (ph : Option SolePhase). places v.made ++ stages.held g (stage_in stage ph)) e) (s.puts.places.each id v here).rising)
+  step_tells (Put q) e = put_tells stage_of Put SeeX g limits front ws vs id v s.puts.places here T (record { next = λ q. tt; fills = λ full. tt; ok = λ place own. own; moved = λ earlier later less. less }) q (ap (stage_in stage) e)
   step_tells (SeeX full) e =
-      let f = stood (SeeX full) e in
-      by_test_le (older_consumed g full.block) (consumed_word g ws (full.block + 1)) (λ b. T (if b then Next (OpenM full) else Done (answer.Put (put.Full full.block (unpacked (consumed_word g ws (full.block + 1))))))) (λ l. tt) (full_seen full f)
-  step_tells (OpenM full) e = tt
-  step_tells (OpenA full) e = tt
-  step_tells (RaiseP full) e = tt
+      let f = put_loads.knows_at stage_of g front ws vs id v v s.puts.places here (Fills full) (ap (stage_in stage) e) in
+      by_test_le (older_full g full.block) (consumed_word g ws (full.block + 1)) (λ b. T (if b then Next (Put (OpenM full)) else Done (answer.Put (put.Full full.block (unpacked (consumed_word g ws (full.block + 1))))))) (λ l. tt) (full_tells full f)
   step_tells (Take (Com r)) e = subst (λ (d : Cursor). TellsStep (Com d)) (sym (at_cursor (Com r) e)) com_tells e
   step_tells (Take (All r m)) e = pick_same T (allocated_word g ws r.block) m _ _ (λ q. tt) (λ n. n)
   step_tells (Take (Word r count)) e = pick_less T (count + 1) g.width _ _ (λ l. tt) (λ l. tt)

@@ -18,7 +18,8 @@ use Rattle.sole_core.specs.Table.{table}
 use Rattle.sole_core.specs.Sound.{IsSound}
 use Rattle.sole_core.proofs.CallTable.{call_table, reads_in_order}
 use Rattle.sole_core.proofs.Outcomes.{Tells, sound_tells}
-use Rattle.sole_core.proofs.Trails.{TrailShows, busy_told, trail_shows}
+use Rattle.put_side.proofs.PutTrails.{busy_told}
+use Rattle.sole_core.proofs.Trails.{TrailShows, apart, trail_shows}
 
 module _ (g : Grid) (ws : List ℕ) (vs : List View) (id : ℕ) (v : View) (p : SolePhase) (limits : IsWithinLimits g) (holds : IsSound g ws vs) (at : slice_get vs id ≡ Some v) (here : v.phase ≡ Some p) (trail : List ℕ) where
   tells : (a : Answer) → after g p (finds table g ws v p) ≡ Done a → Tells g (record { words = ws; views = vs }) v (Done a)
@@ -27,10 +28,10 @@ module _ (g : Grid) (ws : List ℕ) (vs : List View) (id : ℕ) (v : View) (p : 
   adds : (a : Answer) → Tells g (record { words = ws; views = vs }) v (Done a) → TrailShows trail (Done a) → Adds g false v trail a
   adds (answer.Put (put.Ok place)) t s = t
   adds (answer.Put (put.Full head x)) t s = let f = t.0 in (refl, refl, f.not_consumed, t.1)
-  adds (answer.Put (put.Busy reason)) t s = (refl, busy_told trail reason s t)
+  adds (answer.Put (put.Busy reason)) t s = (refl, busy_told trail reason s (apart reason t))
   adds (answer.Take (take.Ok place)) t s = t
   adds (answer.Take (take.Empty place)) t s = (refl, refl, t.1, t.2)
-  adds (answer.Take (take.Busy reason)) t s = (refl, refl, busy_told trail reason s t)
+  adds (answer.Take (take.Busy reason)) t s = (refl, refl, busy_told trail reason s (apart reason t))
   adds (answer.Take (take.Overrun place now)) t s = absurd t
 
 pub keeps_promises : KeepsPromises table IsSound false

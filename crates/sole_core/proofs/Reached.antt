@@ -8,9 +8,8 @@ use Rattle.machine.specs.declared.event.Event.{Event}
 use Rattle.machine.specs.Steps.{Suits}
 use Rattle.machine.specs.Moments.{moment}
 use Rattle.machine.proofs.Runs.{moment_holds}
-use Rattle.put_side.specs.Stages as stages
-use Rattle.put_side.specs.PutTable.{stage_in}
-use Rattle.put_side.proofs.Sums.{rising_front}
+use Rattle.put_side.proofs.Moments as moments
+use Rattle.put_side.proofs.Moments.{places_dense}
 use Rattle.sole_core.specs.Types.{MachineState}
 use Rattle.sole_core.specs.Stage.{stage}
 use Rattle.sole_core.specs.Table.{table}
@@ -26,10 +25,10 @@ module _ (g : Grid) (events : List Event) (limits : IsWithinLimits g) (suits : A
 
 module _ (g : Grid) (w : MachineState) (k : IsSound g w.words w.views) where
   pub dense : PlacesAreDense stage g w.views
-  dense = record { count = k.front.next; once = k.sound.puts.places.counts.once }
+  dense = places_dense stage g k.front w.words w.views k.sound.puts
 
   pub made_rises : MadeRises w.views
-  made_rises id v at = rising_front _ (stages.held g (stage_in stage v.phase)) ((k.sound.puts.places.each id v at).rising)
+  made_rises = moments.made_rises stage g k.front w.words w.views k.sound.puts
 
   pub taken_is_made : TakenIsMade w.views
   taken_is_made id v at i item there = (k.sound.each id v at).items i item there

@@ -1,5 +1,5 @@
 -- What the invariant says of a seat that is about to step: its phase is in range, and so is what the step finds.
-use Rattle.std.proofs.Common.{◌≡◌, ℕ, ◌+◌, ◌/◌, ◌%◌, ◌<◌, ◌≤◌, List, subst, ap, inl, inr, sym, arith}
+use Rattle.std.proofs.Common.{◌≡◌, ℕ, ◌+◌, ◌/◌, ◌%◌, ◌<◌, ◌≤◌, List, subst, ap, sym, arith}
 use Rattle.std.specs.Prelude.{Some, slice_get, nat_le, nat_lt, ◌==◌}
 use Rattle.cursor_word.specs.Shape.{Grid, IsWithinLimits}
 use Rattle.cursor_word.specs.Cursor.{cursor_of, most_block, offset_span, packed, place_span, unpacked}
@@ -9,25 +9,22 @@ use Rattle.rail.specs.Items.{placed}
 use Rattle.machine.specs.Invariant.{CanStep, IsRead, made_total}
 use Rattle.machine.specs.Steps.{finds}
 use Rattle.put_side.specs.Cursors.{Front, put_cursors}
-use Rattle.put_side.specs.Places.{IsCurrent, IsFilled, IsTurn, PutKnows}
+use Rattle.put_side.specs.Places.{PutKnows}
+use Rattle.put_side.specs.PutSteps.{is_same, older_full}
 use Rattle.put_side.specs.PutTable.{stage_in}
-use Rattle.put_side.proofs.Facts.{filled_opened, physical}
 use Rattle.put_side.proofs.Few.{last_small}
 use Rattle.put_side.proofs.Loads as put_loads
+use Rattle.put_side.proofs.PutReady.{filled_in, put_reads_none, put_ready}
 use Rattle.sole_core.specs.declared.phase.SolePhase.{SolePhase}
-use Rattle.sole_core.specs.declared.phase.SolePhase.TheVariants.{HeadP, SeeA, AddA, Write, Commit, SeeX, OpenM, OpenA, RaiseP, Take}
+use Rattle.sole_core.specs.declared.phase.SolePhase.TheVariants.{Put, SeeX, Take}
 use Rattle.sole_core.specs.declared.take_phase.SoleTake.TheVariants.{Com, All, Word, Consume}
 use Rattle.sole_core.specs.Types.{View}
 use Rattle.sole_core.specs.Table.{table}
-use Rattle.sole_core.specs.PutSteps.{FindsFit, IsInRange, after, older_consumed}
+use Rattle.sole_core.specs.PutSteps.{FindsFit, IsInRange, after}
 use Rattle.sole_core.specs.TakeSteps as take_steps
 use Rattle.sole_core.specs.Stage.{stage, stage_of}
 use Rattle.sole_core.specs.Sound.{IsSound, IsSoundAt, Knows, scene}
-use Rattle.sole_core.proofs.Loads.{pick_any}
-
-turn_is : (g : Grid) (turn : ℕ) (first : Cursor) (head : ℕ) → IsTurn g turn first head → take_steps.IsTurn turn
-turn_is g turn first head (inl e) = inl e
-turn_is g turn first head (inr r) = inr r.is
+use Rattle.put_side.proofs.Choices.{pick_any}
 
 -- the phase and what its step finds
 record IsReady (g : Grid) (ws : List ℕ) (v : View) (p : SolePhase) : Type 0 where
@@ -35,25 +32,12 @@ record IsReady (g : Grid) (ws : List ℕ) (v : View) (p : SolePhase) : Type 0 wh
   pub found : FindsFit p (finds table g ws v p)
 
 module _ (g : Grid) (front : Front) (next : ℕ) (ws : List ℕ) (vs : List View) (limits : IsWithinLimits g) (s : IsSoundAt g front next ws vs) (few : front.last ≤ most_block) where
-  filled_in : (full : Cursor) → IsFilled g (put_cursors g ws) full → (g.blocks ≤ full.block) × (full.block ≤ most_block)
-  filled_in full f = let to = filled_opened s.puts.places.words limits.blocks_from (physical g ws 2) full f in (f.from, omega arith)
-
-  current_in : (at : Cursor) → IsCurrent g front.last at → ((g.blocks ≤ at.block) × (at.block ≤ most_block)) × (at.offset < g.size)
-  current_in at c = ((c.from, omega (arith, c.to)), c.within)
-
   next_in : (r : Cursor) → r ≡ cursor_of g next → take_steps.IsNext g r
   next_in r e = let to = block_of_place_to g next limits s.room in subst (take_steps.IsNext g) (sym e) (λ l. ((block_of_place_from g next, omega arith), offset_of_place g next l))
 
   ready : (v : View) (p : SolePhase) → PutKnows g front.last (put_cursors g ws) (stage p) → Knows g (scene g next ws vs) v.read (Some p) → IsReady g ws v p
-  ready v (HeadP turn first) k q = record { range = turn_is g turn first _ k; found = omega (arith, s.puts.places.words.head_to) }
-  ready v (SeeA turn first head) k q = record { range = (turn_is g turn first _ k.0, (k.1.from, omega (arith, k.1.to, s.puts.places.words.head_to))); found = tt }
-  ready v (AddA turn first head) k q = record { range = (turn_is g turn first _ k.0, (k.1.from, omega (arith, k.1.to, s.puts.places.words.head_to))); found = tt }
-  ready v (Write at count) k q = let c = current_in at k.0 in record { range = (c.0, c.1, k.1); found = tt }
-  ready v (Commit at) k q = record { range = current_in at k; found = tt }
-  ready v (SeeX full) k q = record { range = filled_in full k; found = tt }
-  ready v (OpenM full) k q = record { range = filled_in full k; found = tt }
-  ready v (OpenA full) k q = record { range = filled_in full k.0; found = tt }
-  ready v (RaiseP full) k q = record { range = filled_in full k.0; found = tt }
+  ready v (Put phase) k q = let r = put_ready stage_of g front ws vs limits s.puts.places few v.entry phase k in record { range = r.range; found = r.found }
+  ready v (SeeX full) k q = record { range = filled_in stage_of g front ws vs limits s.puts.places few full k; found = tt }
   ready v (Take (Com r)) k q = record { range = next_in r q.0; found = tt }
   ready v (Take (All r m)) k q = record { range = next_in r q.0; found = tt }
   ready v (Take (Word r count)) k q = record { range = (next_in r q.0, q.1.0); found = tt }
@@ -61,17 +45,10 @@ module _ (g : Grid) (front : Front) (next : ℕ) (ws : List ℕ) (vs : List View
 
   -- a take ends with an entry only where it has read all its words
   read_in : (v : View) (p : SolePhase) (found : ℕ) → Knows g (scene g next ws vs) v.read (Some p) → IsRead g (after g p found) v.read
-  read_in v (HeadP turn first) found q = tt
-  read_in v (SeeA turn first head) found q = pick_any (λ b. IsRead g b v.read) (nat_lt (found % offset_span) g.size) _ _ tt (pick_any (λ b. IsRead g b v.read) (turn == 1) _ _ tt tt)
-  read_in v (AddA turn first head) found q = pick_any (λ b. IsRead g b v.read) (nat_lt (found % offset_span) g.size) _ _ tt (pick_any (λ b. IsRead g b v.read) (turn == 1) _ _ tt tt)
-  read_in v (Write at count) found q = pick_any (λ b. IsRead g b v.read) (nat_lt (count + 1) g.width) _ _ tt tt
-  read_in v (Commit at) found q = tt
-  read_in v (SeeX full) found q = pick_any (λ b. IsRead g b v.read) (nat_le (older_consumed g full.block) found) _ _ tt tt
-  read_in v (OpenM full) found q = tt
-  read_in v (OpenA full) found q = tt
-  read_in v (RaiseP full) found q = tt
+  read_in v (Put phase) found q = put_reads_none Put SeeX g phase found v.read
+  read_in v (SeeX full) found q = pick_any (λ b. IsRead g b v.read) (nat_le (older_full g full.block) found) _ _ tt tt
   read_in v (Take (Com r)) found q = pick_any (λ b. IsRead g b v.read) (found == packed r) _ _ tt (pick_any (λ b. IsRead g b v.read) (nat_lt (found / offset_span) r.block) _ _ tt (pick_any (λ b. IsRead g b v.read) ((found % offset_span) == g.size) _ _ tt tt))
-  read_in v (Take (All r m)) found q = pick_any (λ b. IsRead g b v.read) (take_steps.is_same (unpacked found) m) _ _ tt tt
+  read_in v (Take (All r m)) found q = pick_any (λ b. IsRead g b v.read) (is_same (unpacked found) m) _ _ tt tt
   read_in v (Take (Word r count)) found q = pick_any (λ b. IsRead g b v.read) (nat_lt (count + 1) g.width) _ _ tt tt
   read_in v (Take (Consume r)) found q = let m = q.1 in (s.puts.entries m.seat m.view m.at).made_wide m.number (placed next v.read) m.there
 

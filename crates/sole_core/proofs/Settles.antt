@@ -1,5 +1,5 @@
 -- Where all seats are at rest, what was made is what was taken and then what is left in the words.
-use Rattle.std.proofs.Common.{◌≡◌, ℕ, ◌+◌, ◌-◌, ◌<◌, ◌≤◌, List, sym, ap, ◌∙◌, ⊎_elim, arith}
+use Rattle.std.proofs.Common.{◌≡◌, ℕ, ◌+◌, ◌<◌, ◌≤◌, List, sym, ap, ◌∙◌, ⊎_elim, arith}
 use Rattle.std.specs.Prelude.{Contains}
 use Rattle.cursor_word.specs.Shape.{Grid, IsWithinLimits}
 use Rattle.cursor_word.specs.Cursor.{cursor_of}
@@ -24,7 +24,7 @@ use Rattle.sole_core.specs.Types.{View}
 use Rattle.sole_core.specs.Stage.{stage, stage_of}
 use Rattle.sole_core.specs.Sound.{IsSound, IsSoundAt}
 use Rattle.sole_core.proofs.Facts.{taken_within}
-use Rattle.sole_core.proofs.TakeLoads.{still_present}
+use Rattle.put_side.proofs.Moments.{still_present}
 use Rattle.sole_core.proofs.Takings.{taken_once}
 
 module _ (g : Grid) (limits : IsWithinLimits g) (front : Front) (next : ℕ) (ws : List ℕ) (vs : List View) (s : IsSoundAt g front next ws vs) (rest : AllRest vs) where
@@ -57,7 +57,7 @@ module _ (g : Grid) (limits : IsWithinLimits g) (front : Front) (next : ℕ) (ws
   made_stands : (x : Placed) → StandsIn (λ (v : View). v.made) vs x → next ≤ x.place → entry_at g ws x.place ≡ x.words
   made_stands x m from =
       made_at stage_of g ws m.view m.number x (s.puts.entries m.seat m.view m.at) m.there
-      (still_present g limits front next ws vs s (cursor_of g x.place).block (made_block stage_of g limits front ws vs s.puts.places m.seat m.view m.number x m.at m.there) (rest_current x.place from))
+      (still_present stage g front ws vs s.puts limits (cursor_of g x.place).block (made_block stage_of g limits front ws vs s.puts.places m.seat m.view m.number x m.at m.there) (rest_current x.place from))
 
   pub settled_at : IsSettled g ws vs
   settled_at =

@@ -18,32 +18,29 @@ use Rattle.machine.specs.declared.event.Start.{Start}
 use Rattle.machine.specs.declared.event.Start.TheVariants as start
 use Rattle.machine.specs.declared.op.After.TheVariants.{Next, Done}
 use Rattle.machine.specs.Steps.{IsWide, Suits, begun, finds}
-use Rattle.machine.specs.Moments.{EndsAt, moment, seat_at, steps_of}
+use Rattle.machine.specs.Moments.{EndsAt, moment, seat_at, steps_of, taken_step}
 use Rattle.machine.proofs.Lists.{all_at, get_set_same, set_again}
 use Rattle.machine.proofs.Turns.{begun_made, begun_taken}
 use Rattle.machine.proofs.Schedules as schedules
 use Rattle.machine.proofs.Schedules.{IsRecalled, LastStep, Remembers, ends_done, last_step, last_view, remembered}
 use Rattle.put_side.specs.Counts.{makes, times}
+use Rattle.put_side.proofs.Recalled.{busy_shown}
 use Rattle.put_side.proofs.Sums.{sum_same}
 use Rattle.sole_core.specs.Types.{After, CallStep, MachineState, View}
 use Rattle.sole_core.specs.Table.{MayBegin, table}
 use Rattle.sole_core.specs.Counts.{claims, takes}
 use Rattle.sole_core.specs.declared.phase.SolePhase.{SolePhase}
-use Rattle.sole_core.specs.Causes.{BusyShown, Differ, EmptyShown, FullShown, PutPair, TakePair}
+use Rattle.sole_core.specs.Causes.{BusyShown, Differ, EmptyShown, FullShown, PutPair, TakePair, shown}
 use Rattle.sole_core.specs.Moments.{EmptyAt, FullAt}
 use Rattle.sole_core.specs.Sound.{IsSound}
 use Rattle.sole_core.proofs.Outcomes.{Tells, sound_tells}
-use Rattle.sole_core.proofs.Recalled.{BusyFound, Recalls, ShowsNext, step_shows, taken_step}
+use Rattle.sole_core.proofs.Recalled.{Recalls, ShowsNext, step_shows}
 use Rattle.sole_core.proofs.Reached.{moment_sound}
 use Rattle.sole_core.proofs.Starts.{begins}
 
 -- what the steps of a call show with the one that answers
 abbrev pub Shows : Grid → List CallStep → CallStep → Answer → Type 0
 Shows g steps this a = ShowsNext g steps this (Done a)
-
--- what the steps found, with what the last one tells
-busy_shown : (Pair : SolePhase → SolePhase → Type 0) (steps : List CallStep) (last : CallStep) (reason : Why) → BusyFound Pair steps reason last → Differ reason → BusyShown Pair steps reason
-busy_shown Pair steps last reason f d = record { earlier = f.earlier; later = f.later; in_order = f.in_order; is_last = f.is_last; differ = d }
 
 -- a call that begins claims no place yet
 begun_claims : (g : Grid) (p : ℕ) (v : View) (ph : Option SolePhase) (s : Start) → v.phase ≡ ph → claims g p (begun table g v ph s) ≡ claims g p v
@@ -61,7 +58,7 @@ module _ (g : Grid) (events : List Event) (limits : IsWithinLimits g) (suits : A
   recalled = record {
     put = inl refl;
     take = λ v. refl;
-    step = λ n id v p steps at e r. let old : ℕ = finds table g (moment table g events n).words v p in as_next steps (taken_step g v.entry n p old) _ (step_shows g v.entry n steps p old r);
+    step = λ n id v p steps at e r. let old : ℕ = finds table g (moment table g events n).words v p in as_next steps (taken_step table g v.entry n p old) _ (step_shows g v.entry n steps p old r);
   }
 
   pub trail_is : (n id : ℕ) (v : View) → seat_at table g events n id ≡ Some v → Remembers table g events Recalls (Shows g) (steps_of table g events id n) v
@@ -150,10 +147,10 @@ module _ (g : Grid) (events : List Event) (limits : IsWithinLimits g) (suits : A
       }
 
   pub put_busy : (i seat : ℕ) (reason : Why) → EndsAt table g events i seat (answer.Put (put.Busy reason)) → BusyShown (PutPair reason) (steps_of table g events seat (suc i)) reason
-  put_busy i seat reason x = let l = last i seat _ x in subst (λ (steps : List CallStep). BusyShown (PutPair reason) steps reason) (sym l.whole) (busy_shown (PutPair reason) (l.before ++ l.last ∷ []) l.last reason l.shows (tells i seat _ x))
+  put_busy i seat reason x = let l = last i seat _ x in subst (λ (steps : List CallStep). BusyShown (PutPair reason) steps reason) (sym l.whole) (busy_shown shown (PutPair reason) (λ why p. Differ why) (l.before ++ l.last ∷ []) l.last reason l.shows (tells i seat _ x))
 
   pub take_busy : (i seat : ℕ) (reason : Why) → EndsAt table g events i seat (answer.Take (take.Busy reason)) → BusyShown (TakePair reason) (steps_of table g events seat (suc i)) reason
-  take_busy i seat reason x = let l = last i seat _ x in subst (λ (steps : List CallStep). BusyShown (TakePair reason) steps reason) (sym l.whole) (busy_shown (TakePair reason) (l.before ++ l.last ∷ []) l.last reason l.shows (tells i seat _ x))
+  take_busy i seat reason x = let l = last i seat _ x in subst (λ (steps : List CallStep). BusyShown (TakePair reason) steps reason) (sym l.whole) (busy_shown shown (TakePair reason) (λ why p. Differ why) (l.before ++ l.last ∷ []) l.last reason l.shows (tells i seat _ x))
 
   -- no take answers that a cursor moved
   pub never_moved : (i seat : ℕ) (earlier later : Cursor) → EndsAt table g events i seat (answer.Take (take.Busy (why.Moved earlier later))) → ⊥

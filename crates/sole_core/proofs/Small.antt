@@ -10,10 +10,10 @@ use Rattle.machine.specs.Steps.{start_words}
 use Rattle.put_side.specs.Cursors.{consumed_word, reserved_word}
 use Rattle.put_side.specs.Laws.{BlocksAreSmall, WordsAreSmall}
 use Rattle.put_side.proofs.Begins.{start_word_is, starts_at}
-use Rattle.put_side.proofs.Draws.{offset_small}
-use Rattle.put_side.proofs.Facts.{allocated_below, committed_below, physical}
+use Rattle.put_side.proofs.Facts.{physical}
+use Rattle.put_side.proofs.Moments as moments
 use Rattle.sole_core.specs.Types.{View}
-use Rattle.sole_core.specs.Stage.{stage_of}
+use Rattle.sole_core.specs.Stage.{stage}
 use Rattle.sole_core.specs.Sound.{IsSound}
 use Rattle.sole_core.proofs.Ready.{last_few}
 
@@ -30,19 +30,9 @@ pub words_small : (g : Grid) (ws : List ℕ) (vs : List View) → IsWithinLimits
 words_small g ws vs limits k room =
     let s = k.sound in
     let few = last_few g ws vs limits k room in
-    let words = s.puts.places.words in
-    let two = limits.blocks_from in
-    let least = limits.blocks_to in
-    let to = block_of_place_to g k.next limits s.room in
-    let within = offset_of_place g k.next limits in
-    let size = limits.size_to in
-    record {
-      offsets = λ b h. offset_small stage_of g limits k.front ws vs s.puts.places b (omega (arith, words.from));
-      allocated = λ b h. let e = allocated_below words two (physical g ws 2) b in omega arith;
-      committed = λ b h. let e = committed_below words two (physical g ws 3) b in omega arith;
-      reserved = λ b h. let e = reserved_start g b limits h in let z = ap (λ (w : ℕ). w / offset_span) (s.unmoved.reserved b) in omega arith;
-      heads = (omega (arith, words.head_to), let h = s.unmoved.head in let z = start_word_is g 1 (omega arith) in omega arith);
-    }
+    let from = s.puts.places.words.from in
+    let least = limits.blocks_from in
+    moments.words_small stage g k.front ws vs s.puts limits few (λ b h. let e = reserved_start g b limits h in let z = ap (λ (w : ℕ). w / offset_span) (s.unmoved.reserved b) in omega arith) (let h = s.unmoved.head in let z = start_word_is g 1 (omega arith) in omega arith)
 
 pub consumed_small : (g : Grid) (ws : List ℕ) (vs : List View) → IsWithinLimits g → IsSound g ws vs → made_total vs ≤ place_span g → BlocksAreSmall g (consumed_word g ws)
 consumed_small g ws vs limits k room b h =

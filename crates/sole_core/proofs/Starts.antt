@@ -35,7 +35,7 @@ use Rattle.sole_core.specs.Stage.{stage, stage_of}
 use Rattle.sole_core.specs.Cursors.{TakeWords}
 use Rattle.sole_core.specs.Sound.{IsSound, IsSoundAt, Knows, OnlyPuts, TakeFits, scene}
 use Rattle.sole_core.proofs.Frames.{quiet}
-use Rattle.sole_core.proofs.Loads.{same_words}
+use Rattle.put_side.proofs.TakeWords.{same_words}
 
 -- the consumer has taken as many entries as there are places below the next one
 pub taken_long : (taken : List Placed) (next : ℕ) → places taken ≡ numbers_below next → length taken ≡ next

@@ -9,19 +9,21 @@ use Rattle.cursor_word.specs.Layout.{entry_index}
 use Rattle.machine.specs.Steps.{view_after, words_after}
 use Rattle.put_side.specs.Cursors.{Front, put_cursors}
 use Rattle.put_side.specs.Manned as put_work
-use Rattle.put_side.specs.PutTable.{IsShared, stage_in}
+use Rattle.put_side.specs.PutTable.{stage_in}
 use Rattle.put_side.proofs.Attends.{IsIdle}
 use Rattle.put_side.proofs.Keeps.{OpensNext}
 use Rattle.put_side.proofs.Owns.{manned_own}
+use Rattle.put_side.specs.declared.put_phase.PutPhase.{PutPhase}
+use Rattle.put_side.proofs.TakeWords.{same_words}
 use Rattle.sole_core.specs.declared.phase.SolePhase.{SolePhase}
-use Rattle.sole_core.specs.declared.phase.SolePhase.TheVariants.{HeadP, SeeA, AddA, Write, Commit, SeeX, OpenM, OpenA, RaiseP, Take}
+use Rattle.sole_core.specs.declared.phase.SolePhase.TheVariants.{Put, SeeX, Take}
 use Rattle.sole_core.specs.declared.take_phase.SoleTake.TheVariants.{Com, All, Word, Consume}
 use Rattle.sole_core.specs.Types.{View}
 use Rattle.sole_core.specs.Table.{table}
 use Rattle.sole_core.specs.Stage.{stage, stage_of}
 use Rattle.sole_core.specs.Sound.{IsSoundAt}
 use Rattle.sole_core.proofs.Puts.{keeps_put, shared_step}
-use Rattle.sole_core.proofs.Loads.{keeps_SeeX, same_words}
+use Rattle.sole_core.proofs.Loads.{keeps_SeeX}
 use Rattle.sole_core.proofs.TakeLoads.{keeps_All, keeps_Com, keeps_Word}
 use Rattle.sole_core.proofs.Consumes.{keeps_Consume}
 
@@ -38,10 +40,10 @@ module _ (g : Grid) (limits : IsWithinLimits g) (front : Front) (next : ℕ) (ws
   abbrev After : SolePhase → Type 0
   After p = IsAfter g p front next (words_after table g ws v p) (slice_set vs id (view_after table g ws v p))
 
-  after_put : (p : SolePhase) → v.phase ≡ Some p → IsShared (stage p) → After p
-  after_put p e shared =
-      let k = (shared_step g limits front next ws vs s id v at p e shared small).0 in
-      record { front' = k.to; next' = next; opened = k.further; sound = keeps_put g limits front next ws vs s id v at p e shared small; manned = k.manned m }
+  after_put : (q : PutPhase) → v.phase ≡ Some (Put q) → After (Put q)
+  after_put q e =
+      let k = (shared_step g limits front next ws vs s id v at q e small).0 in
+      record { front' = k.to; next' = next; opened = k.further; sound = keeps_put g limits front next ws vs s id v at q e small; manned = k.manned m }
 
   -- a load of the queue's own
   after_load : (p : SolePhase) (i : ℕ) → v.phase ≡ Some p → IsIdle front.last (stage p)
@@ -57,15 +59,8 @@ module _ (g : Grid) (limits : IsWithinLimits g) (front : Front) (next : ℕ) (ws
 
   -- one law for each kind of step
   pub step_at : (p : SolePhase) → v.phase ≡ Some p → After p
-  step_at (HeadP turn first) e = after_put (HeadP turn first) e tt
-  step_at (SeeA turn first head) e = after_put (SeeA turn first head) e tt
-  step_at (AddA turn first head) e = after_put (AddA turn first head) e tt
-  step_at (Write c count) e = after_put (Write c count) e tt
-  step_at (Commit c) e = after_put (Commit c) e tt
+  step_at (Put q) e = after_put q e
   step_at (SeeX full) e = after_load (SeeX full) (5 + 4 * ((full.block + 1) % g.blocks)) e record { allocated = refl; producer = refl; entered = refl } (keeps_SeeX g front next ws vs s id v at full e)
-  step_at (OpenM full) e = after_put (OpenM full) e tt
-  step_at (OpenA full) e = after_put (OpenA full) e tt
-  step_at (RaiseP full) e = after_put (RaiseP full) e tt
   step_at (Take (Com r)) e = after_load (Take (Com r)) (3 + 4 * (r.block % g.blocks)) e record { allocated = refl; producer = refl; entered = refl } (keeps_Com g limits front next ws vs s id v at r e)
   step_at (Take (All r c)) e = after_load (Take (All r c)) (2 + 4 * (r.block % g.blocks)) e record { allocated = refl; producer = refl; entered = refl } (keeps_All g limits front next ws vs s id v at r c e)
   step_at (Take (Word r count)) e = after_load (Take (Word r count)) (entry_index g (r.block % g.blocks) r.offset count) e record { allocated = refl; producer = refl; entered = refl } (keeps_Word g limits front next ws vs s id v at r count e)

@@ -14,33 +14,28 @@ use Rattle.rail.specs.Items.{placed}
 use Rattle.rail.specs.declared.answer.Answer.TheVariants as answer
 use Rattle.rail.specs.declared.answer.Take.TheVariants as taking
 use Rattle.machine.specs.Steps.{view_after, words_after}
-use Rattle.put_side.specs.Cursors.{Front, allocated_word, committed_word, place}
+use Rattle.put_side.specs.Cursors.{Front, committed_word, place, put_cursors}
 use Rattle.put_side.specs.Counts.{makes, sum_below}
-use Rattle.put_side.specs.Entries.{HasWords, IsMade, IsPresent}
+use Rattle.put_side.specs.Entries.{HasWords, IsMade}
 use Rattle.put_side.proofs.Items.{made_there}
 use Rattle.put_side.proofs.Sums.{none_from, upto_all, upto_cut, upto_from, upto_le}
 use Rattle.put_side.proofs.Facts.{found_open, physical, repacked}
+use Rattle.put_side.proofs.Commits.{made_once}
 use Rattle.put_side.proofs.Stores.{made_block}
+use Rattle.put_side.proofs.Moments.{made_within, still_present}
 use Rattle.sole_core.specs.declared.phase.SolePhase.TheVariants.{Take}
 use Rattle.sole_core.specs.declared.take_phase.SoleTake.{SoleTake}
 use Rattle.sole_core.specs.declared.take_phase.SoleTake.TheVariants.{Com, All, Word, Consume}
 use Rattle.sole_core.specs.Types.{After, View}
 use Rattle.sole_core.specs.TakeSteps.{after_take}
 use Rattle.sole_core.specs.Table.{table}
-use Rattle.sole_core.specs.Stage.{stage_of}
+use Rattle.sole_core.specs.Stage.{stage, stage_of}
 use Rattle.sole_core.specs.Sound.{IsSoundAt, Knows, TakeKnows, cursor_in, scene}
-use Rattle.sole_core.proofs.Loads.{IsNextOwn, answers, go_on, loads, pick_equal, pick_less, pick_same}
-use Rattle.sole_core.proofs.Facts.{each_once, made_once, opened_or_next}
+use Rattle.put_side.proofs.Choices.{pick_equal, pick_less, pick_same}
+use Rattle.sole_core.proofs.Loads.{IsNextOwn, answers, go_on, loads}
+use Rattle.sole_core.proofs.Facts.{opened_or_next}
 
 module _ (g : Grid) (limits : IsWithinLimits g) (front : Front) (next : ℕ) (ws : List ℕ) (vs : List View) (s : IsSoundAt g front next ws vs) where
-  -- the allocated cursor of a block that is not reused is of no later block
-  pub still_present : (k : ℕ) → k ≤ front.last → front.last < k + g.blocks → IsPresent (allocated_word g ws) k
-  still_present k to near =
-      let w = s.puts.places.words in
-      ⊎_elim (λ l. let f = w.full k l near in omega (arith, f.0))
-      (λ l. let e : k ≡ front.last = omega arith in let z = ap (allocated_word g ws) e in ⊎_elim (λ q. omega (arith, q.block)) (λ q. omega (arith, q.older, limits.blocks_from)) w.newest)
-      (cases_lt k front.last)
-
   -- an entry that was made at the next place stands there
   pub record IsThere (words : List ℕ) : Type 0 where
     pub opened : (cursor_of g next).block ≤ front.last
@@ -51,7 +46,7 @@ module _ (g : Grid) (limits : IsWithinLimits g) (front : Front) (next : ℕ) (ws
   made_next words m =
       let f = s.puts.entries m.seat m.view m.at in
       let block = made_block stage_of g limits front ws vs s.puts.places m.seat m.view m.number _ m.at m.there in
-      record { opened = block; stands = f.made_words m.number _ m.there (still_present (cursor_of g next).block block s.near); wide = f.made_wide m.number _ m.there }
+      record { opened = block; stands = f.made_words m.number _ m.there (still_present stage g front ws vs s.puts limits (cursor_of g next).block block s.near); wide = f.made_wide m.number _ m.there }
 
   abbrev block : ℕ
   block = (cursor_of g next).block
@@ -93,7 +88,7 @@ module _ (g : Grid) (limits : IsWithinLimits g) (front : Front) (next : ℕ) (ws
         let from = block_of_place_from g next in
         let within = offset_of_place g next limits in
         let here : place g k c.offset ≡ next = place_of_cursor g next in
-        let once = each_once g limits front next ws vs s k in
+        let once = λ (o : ℕ). made_once stage_of g front (put_cursors g ws) vs s.puts.places (place g k o) in
         loads g front next ws vs s id v at i w (Take q) (after_take g q w) v.read e refl
         (pick_equal (Leads v.read) w (packed c) _ _
         (λ z. answers g front next ws vs s id v at (answer.Take (taking.Empty _)) refl refl)
@@ -128,7 +123,7 @@ module _ (g : Grid) (limits : IsWithinLimits g) (front : Front) (next : ℕ) (ws
         let F : ℕ → ℕ = λ o. sum_by (makes (place g k o)) vs in
         let from = block_of_place_from g next in
         let here : place g k c.offset ≡ next = place_of_cursor g next in
-        let once = each_once g limits front next ws vs s k in
+        let once = λ (o : ℕ). made_once stage_of g front (put_cursors g ws) vs s.puts.places (place g k o) in
         let is = committed_is (omega (arith, a.same, a.known)) in
         let words = s.puts.places.words in
         loads g front next ws vs s id v at i w (Take q) (after_take g q w) v.read e refl
@@ -141,7 +136,7 @@ module _ (g : Grid) (limits : IsWithinLimits g) (front : Front) (next : ℕ) (ws
         let n = s.puts.places.counts.made k is.0 s.near from in
         let much : m.offset ≤ committed_word g ws k % offset_span = omega (arith, a.same, a.known) in
         let edge : front.next ≡ place g k m.offset = d.1 ∙ ap (place g front.last) o ∙ ap (λ (b : ℕ). place g b m.offset) (sym top) in
-        let zero_from : (o : ℕ) → m.offset ≤ o → F o ≡ 0 = λ o h. let y = made_once g limits front next ws vs s (place g k o) in let z = none_from (place g k o) front.next (omega arith) in omega arith in
+        let zero_from : (o : ℕ) → m.offset ≤ o → F o ≡ 0 = λ o h. let y = made_within stage g front ws vs s.puts (place g k o) in let z = none_from (place g k o) front.next (omega arith) in omega arith in
         let cut = upto_cut g.size m.offset F (omega (arith, a.within)) zero_from in
         let most = upto_le m.offset F once in
         let full : sum_below m.offset F ≡ m.offset = omega arith in

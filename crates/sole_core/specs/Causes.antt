@@ -1,32 +1,32 @@
 -- What the steps of a call show of its answer.
-use Rattle.std.specs.Prelude.{◌≡◌, ◌≢◌, ℕ, suc, ◌<◌, ◌⊎◌, List, Some, length, slice_get}
+use Rattle.std.specs.Prelude.{◌≡◌, ◌≢◌, ℕ, suc, ◌<◌, ◌⊎◌, List, length}
 use Rattle.cursor_word.specs.Shape.{Grid}
 use Rattle.cursor_word.specs.Cursor.{packed, place_at, unpacked}
 use Rattle.cursor_word.specs.declared.cursor.Cursor.{Cursor}
 use Rattle.rail.specs.declared.answer.Why.{Why}
 use Rattle.rail.specs.declared.answer.Why.TheVariants as why
 use Rattle.sole_core.specs.declared.phase.SolePhase.{SolePhase}
-use Rattle.sole_core.specs.declared.phase.SolePhase.TheVariants.{SeeA, AddA, SeeX, Take}
+use Rattle.sole_core.specs.declared.phase.SolePhase.TheVariants.{SeeX, Take}
 use Rattle.sole_core.specs.declared.take_phase.SoleTake.TheVariants.{Com, All}
 use Rattle.machine.specs.declared.event.Event.{Event}
 use Rattle.machine.specs.Moments.{moment}
 use Rattle.sole_core.specs.Moments.{EmptyAt, FullAt}
+use Rattle.put_side.specs.Causes as causes
+use Rattle.sole_core.specs.Stage.{stage}
 use Rattle.sole_core.specs.Table.{table}
 use Rattle.sole_core.specs.Types.{CallStep}
 
+-- each step shows the cursor whose word it found
+abbrev pub shown : SolePhase → ℕ → Cursor
+shown phase word = unpacked word
+
 -- a step of this kind found this cursor
-pub record FoundBy (Is : SolePhase → Type 0) (c : Cursor) (steps : List CallStep) : Type 0 where
-  pub number : ℕ
-  pub step : CallStep
-  pub at : slice_get steps number ≡ Some step
-  pub kind : Is step.phase
-  pub found : unpacked step.found ≡ c
+abbrev pub FoundBy : (SolePhase → Type 0) → Cursor → List CallStep → Type 0
+FoundBy Is c steps = causes.FoundBy shown Is c steps
 
 -- a step of this turn that finds the allocated cursor of the head's block
 abbrev pub FindsAllocated : ℕ → SolePhase → Type 0
-FindsAllocated turn (SeeA t first head) = t ≡ turn
-FindsAllocated turn (AddA t first head) = t ≡ turn
-FindsAllocated turn p = ⊥
+FindsAllocated turn p = causes.FindsAllocated turn (stage p)
 
 -- a call that answers Full found the allocated cursor of the head; and in its last step it loaded
 -- the consumed cursor in the place of the next block, and the queue was full then
@@ -53,15 +53,6 @@ pub record EmptyShown (shape : Grid) (events : List Event) (steps : List CallSte
   pub is_only : length steps ≡ 1
   pub was_empty : EmptyAt (moment table shape events only.step.position) place
 
--- the two cursors of a Busy answer, in the order in which they were found
-abbrev pub first_found : Why → Cursor
-first_found (why.Unfinished block before after) = before
-first_found (why.Moved earlier later) = earlier
-
-abbrev pub second_found : Why → Cursor
-second_found (why.Unfinished block before after) = after
-second_found (why.Moved earlier later) = later
-
 -- the step p that finds the first cursor of a put's Busy answer, and the step q that finds the
 -- second: the allocated cursor in each turn. No put finds a block unfinished
 abbrev pub PutPair : Why → SolePhase → SolePhase → Type 0
@@ -83,10 +74,5 @@ Differ (why.Moved earlier later) = earlier.block < later.block
 
 -- a call that answers Busy found the second cursor in its last step, and the first in an earlier
 -- one
-pub record BusyShown (Pair : SolePhase → SolePhase → Type 0) (steps : List CallStep)
-    (reason : Why) : Type 0 where
-  pub earlier : FoundBy (λ p. Unit {0}) (first_found reason) steps
-  pub later : FoundBy (λ q. Pair earlier.step.phase q) (second_found reason) steps
-  pub in_order : earlier.number < later.number
-  pub is_last : suc later.number ≡ length steps
-  pub differ : Differ reason
+abbrev pub BusyShown : (SolePhase → SolePhase → Type 0) → List CallStep → Why → Type 0
+BusyShown Pair steps reason = causes.BusyShown shown Pair (λ why p. Differ why) steps reason

@@ -1,10 +1,10 @@
 -- The words that takes move, and those that no step moves. The cursors that puts move are the side
 -- of puts' own.
-use Rattle.std.specs.Prelude.{◌≡◌, ℕ, ◌+◌, ◌*◌, ◌%◌, ◌<◌, ◌≤◌, List, slice_index}
+use Rattle.std.specs.Prelude.{◌≡◌, ℕ, ◌+◌, ◌*◌, ◌<◌, ◌≤◌, List, slice_index}
 use Rattle.cursor_word.specs.Shape.{Grid}
 use Rattle.cursor_word.specs.Cursor.{cursor_of, offset_span, packed}
 use Rattle.machine.specs.Steps.{start_words}
-use Rattle.put_side.specs.Cursors.{consumed_word, reserved_word}
+use Rattle.put_side.specs.Cursors.{reserved_word}
 
 -- the consumer head and the reserved cursors stay as they start
 pub record IsUnmoved (shape : Grid) (words : List ℕ) : Type 0 where

@@ -11,13 +11,14 @@ use Rattle.put_side.specs.Cursors.{Front, committed_word, consumed_word, put_cur
 use Rattle.put_side.specs.Counts.{makes}
 use Rattle.put_side.specs.Entries.{IsMade}
 use Rattle.put_side.specs.PutSide.{PutSide}
+use Rattle.put_side.specs.PutSteps.{older_full}
+use Rattle.put_side.specs.declared.put_phase.PutPhase.TheVariants.{OpenM}
 use Rattle.put_side.specs.Manned as puts
 use Rattle.sole_core.specs.declared.phase.SolePhase.{SolePhase}
-use Rattle.sole_core.specs.declared.phase.SolePhase.TheVariants.{OpenM, Take}
+use Rattle.sole_core.specs.declared.phase.SolePhase.TheVariants.{Put, Take}
 use Rattle.sole_core.specs.declared.take_phase.SoleTake.{SoleTake}
 use Rattle.sole_core.specs.declared.take_phase.SoleTake.TheVariants.{Com, All, Word, Consume}
 use Rattle.sole_core.specs.Types.{View}
-use Rattle.sole_core.specs.PutSteps.{older_consumed}
 use Rattle.sole_core.specs.Stage.{stage_of}
 use Rattle.sole_core.specs.Table.{consumer}
 use Rattle.sole_core.specs.Cursors.{IsUnmoved, TakeWords}
@@ -70,8 +71,8 @@ cursor_in (Consume r) = r
 -- What a seat remembers besides what the side of puts says: a put that is about to open a block,
 -- that the older block in its place is wholly consumed; a take, where the next place lies.
 abbrev pub Knows : Grid → Scene → List ℕ → Option SolePhase → Type 0
-Knows shape s read (Some (OpenM full)) =
-    older_consumed shape full.block ≤ s.consumed (full.block + 1)
+Knows shape s read (Some (Put (OpenM full))) =
+    older_full shape full.block ≤ s.consumed (full.block + 1)
 Knows shape s read (Some (Take q)) =
     (cursor_in q ≡ cursor_of shape s.next) × TakeKnows shape s read q
 Knows shape s read phase = Unit {0}

@@ -1,12 +1,13 @@
 -- The steps of a take: which step each phase does, what follows it, and how many steps may follow.
-use Rattle.std.specs.Prelude.{◌≡◌, ℕ, ◌+◌, ◌-◌, ◌/◌, ◌%◌, ◌<◌, ◌≤◌, ◌⊎◌, List, length, min, nat_lt, if◌then◌else◌, ◌==◌, ◌&&◌, Bool}
+use Rattle.std.specs.Prelude.{ℕ, ◌+◌, ◌-◌, ◌/◌, ◌%◌, ◌<◌, List, length, min, nat_lt, if◌then◌else◌, ◌==◌}
 use Rattle.cursor_word.specs.Shape.{Grid, IsWithinLimits}
-use Rattle.cursor_word.specs.Cursor.{cursor_of, most_block, offset_span, packed, place_at, place_span, unpacked}
+use Rattle.cursor_word.specs.Cursor.{cursor_of, offset_span, packed, place_at, place_span, unpacked}
 use Rattle.cursor_word.specs.Layout.{index_of, allocated, committed, consumed, entry}
 use Rattle.cursor_word.specs.declared.cursor.Cursor.{Cursor}
 use Rattle.rail.specs.declared.answer.Take.TheVariants as take
 use Rattle.rail.specs.declared.answer.Why.TheVariants as why
 use Rattle.rail.specs.declared.entry.Placed.{Placed}
+use Rattle.put_side.specs.PutSteps.{IsBlock, is_same}
 use Rattle.sole_core.specs.declared.phase.SolePhase.{SolePhase}
 use Rattle.sole_core.specs.declared.phase.SolePhase.TheVariants.{Take}
 use Rattle.sole_core.specs.declared.take_phase.SoleTake.{SoleTake}
@@ -28,14 +29,6 @@ take_at next = Take (Com next)
 
 abbrev pub first_take : Grid → List Placed → SolePhase
 first_take shape taken = take_at (next_cursor shape (length taken))
-
--- a call has two turns
-abbrev pub IsTurn : ℕ → Type 0
-IsTurn turn = (turn ≡ 1) ⊎ (turn ≡ 2)
-
--- a block number that a head may have
-abbrev pub IsBlock : Grid → ℕ → Type 0
-IsBlock shape k = (shape.blocks ≤ k) × (k ≤ most_block)
 
 -- a cursor at which an entry may lie, in a queue within the limits
 abbrev pub IsNext : Grid → Cursor → Type 0
@@ -74,10 +67,6 @@ committed_or_not shape r old =
     (if (old % offset_span) == shape.size then read_from r else Next
     (Take (All r (unpacked old)))))
 
--- whether two cursors are one
-abbrev pub is_same : Cursor → Cursor → Bool
-is_same c d = (c.block == d.block) && (c.offset == d.offset)
-
 -- by the allocated cursor: where it is the committed one, no put of the block is unfinished
 abbrev pub all_or_not : Cursor → Cursor → ℕ → After
 all_or_not r m old =
@@ -92,10 +81,6 @@ after_take shape (Word r next) old =
     if nat_lt (next + 1) shape.width then Next (Take (Word r (next + 1))) else Next
     (Take (Consume r))
 after_take shape (Consume r) old = Done (answer.Take (take.Ok (place_at shape r)))
-
--- one number in the first turn, another in the second
-abbrev pub by_turn : ℕ → ℕ → ℕ → ℕ
-by_turn turn first second = if turn == 1 then first else second
 
 -- how many steps may follow, the one of the phase among them
 abbrev pub rank_take : Grid → SoleTake → ℕ

@@ -11,10 +11,7 @@ impl CallPhase for SolePhase {
     #[inline(always)]
     fn usual_step(&self) -> u64 {
         match *self {
-            SolePhase::HeadP { .. } => 0,
-            SolePhase::SeeA { .. } => 1,
-            SolePhase::AddA { .. } => 2,
-            SolePhase::Write { .. } => 3,
+            SolePhase::Put(put) => put.usual_step(),
             SolePhase::Take(SoleTake::Com { .. }) => 0,
             SolePhase::Take(SoleTake::All { .. }) => 1,
             SolePhase::Take(SoleTake::Word { .. }) => 2,

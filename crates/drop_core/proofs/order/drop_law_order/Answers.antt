@@ -3,7 +3,7 @@ use Rattle.put_side.proofs.InTime.{puts_in_order}
 use Rattle.drop_core.specs.Stage.{stage}
 use Rattle.drop_core.specs.Steps.{table}
 use Rattle.drop_core.proofs.Moments.{dense}
-use Rattle.drop_core.proofs.PutSteps.{puts}
+use Rattle.drop_core.proofs.CallTable.{puts}
 use Rattle.drop_core.proofs.Reached.{moment_sound}
 use Rattle.drop_core.proofs.order.drop_law_order.Goals as goal
 

@@ -1,4 +1,4 @@
-use Rattle.drop_core.proofs.SeatOrder.{all_may_begin, orderless}
+use Rattle.drop_core.proofs.Permutes.{all_may_begin, orderless}
 use Rattle.drop_core.proofs.running.DropPhaseSharedPhase.seats.Goals as goal
 
 pub returns-clause-order : goal.returns-clause-order

@@ -1,8 +1,0 @@
-use Rattle.bbq_core.proofs.SeatOrder.{all_may_begin, orderless}
-use Rattle.bbq_core.proofs.running.PhaseSharedPhase.seats.Goals as goal
-
-pub returns-clause-order : goal.returns-clause-order
-returns-clause-order c = orderless
-
-pub returns-clause-begin : goal.returns-clause-begin
-returns-clause-begin c = all_may_begin
