@@ -1,5 +1,5 @@
 -- Which of some seats takes.
-use Rattle.std.specs.Prelude.{ℕ, ◌<◌, List, length, slice_index_or}
+use Rattle.std.specs.Prelude.{◌<◌, List, length, slice_index_or}
 
 -- the first of these seats may take
 abbrev pub FirstTakes : {S : Type 0} → (S → Type 0) → List S → Type 0
