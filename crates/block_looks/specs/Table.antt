@@ -24,7 +24,8 @@ look_want shape Head = index_of shape part.producer
 look_want shape (HeadA head) = index_of shape (part.allocated (head % shape.blocks))
 look_want shape (Com block) = index_of shape (part.committed (block % shape.blocks))
 look_want shape (All block found) = index_of shape (part.allocated (block % shape.blocks))
-look_want shape (Word at next) = index_of shape (part.entry (at.block % shape.blocks) at.offset next)
+look_want shape (Word at next) =
+    index_of shape (part.entry (at.block % shape.blocks) at.offset next)
 look_want shape (Check at) = index_of shape (part.allocated (at.block % shape.blocks))
 
 -- by the cursors of a block: both are of this block, and all of it is committed, or all that is

@@ -110,7 +110,8 @@ impl DropRail {
     /// Closes the queue, with all its seats. It takes no memory.
     pub fn close_into(self, seats: Vec<DropSeat>, left: Batch) -> DropDone
         requires seats { All (IsSeatOf self) seats.items }
-        requires all { IsPermutation (map (λ (s : SeatedWith DropPhase Looks). s.number) seats.items)
+        requires all { IsPermutation
+            (map (λ (s : SeatedWith DropPhase Looks). s.number) seats.items)
             (numbers_below self.shape.seats) }
         requires empty { left.items ≡ [] }
         requires room { counted_live self.shape seats.items ≤ left.spare }
@@ -247,14 +248,17 @@ impl Rail for DropRail {
         seats: Vec<Self::Seat>,
     ) -> Result<Self::Done, Refused<Self, Self::Seat>>
         requires seats { All (IsSeatOf self) seats.items }
-        requires all { IsPermutation (map (λ (s : SeatedWith DropPhase Looks). s.number) seats.items)
+        requires all { IsPermutation
+            (map (λ (s : SeatedWith DropPhase Looks). s.number) seats.items)
             (numbers_below self.shape.seats) }
         ensures shape { IfOk result (λ done. done.shape ≡ self.shape) }
         ensures accepted { IfOk result
-            (λ done. IsAccepted (flat_map (λ (s : SeatedWith DropPhase Looks). s.view.made) seats.items)
+            (λ done. IsAccepted
+            (flat_map (λ (s : SeatedWith DropPhase Looks). s.view.made) seats.items)
             done.accepted) }
         ensures taken { IfOk result
-            (λ done. IsPermutation (flat_map (λ (s : SeatedWith DropPhase Looks). s.view.taken) seats.items)
+            (λ done. IsPermutation
+            (flat_map (λ (s : SeatedWith DropPhase Looks). s.view.taken) seats.items)
             done.taken) }
         ensures order { IfOk result (λ done. IsRising (places done.taken)) }
         ensures retry { true ≡ false

@@ -24,7 +24,8 @@ pub fn gather(alloc: Global, batches: &[Batch], left: &Batch) -> Result<Batch, A
 
 // The items of all batches, one batch after the other.
 fn copied(alloc: Global, batches: &[Batch]) -> Result<Vec<Placed>, AllocError>
-    ensures { IfOk result (λ items. items.items ≡ flat_map (λ (b : Gathered). b.items) batches.now) }
+    ensures { IfOk result
+        (λ items. items.items ≡ flat_map (λ (b : Gathered). b.items) batches.now) }
 {
     let mut items = Vec::new(alloc);
     for batch in batches {

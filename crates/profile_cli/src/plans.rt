@@ -9,7 +9,8 @@ use word_text::{MOST_PIECES, Plan, PlanError, Text, pieces};
 pub fn plan_all(alloc: Global, texts: &[Text], k: usize) -> Result<Plan, PlanError>
     requires { 0 < k }
     ensures ok { IfOk result (λ plan. plan ≡ plan_of texts.now k) }
-    ensures too_many { IsErrOf result PlanError.TooMany → MOST_PIECES < length (plan_of texts.now k) }
+    ensures too_many { IsErrOf result PlanError.TooMany
+        → MOST_PIECES < length (plan_of texts.now k) }
 {
     let mut plan = Plan::new(alloc);
     for (file, text) in texts.iter().enumerate() {

@@ -129,7 +129,8 @@ IsTooLarge files name = IfSome files (λ held.
 abbrev pub EndsFile : List ℕ → Source → Written → Ending → Type 0
 EndsFile name source out Usage = ⊥
 EndsFile name source out OutOfMemory = out.new_told ≡ out.told
-EndsFile name source out Unread = (Rose source.faults source.new_faults ⊎ HoldsNone source.files name)
+EndsFile name source out Unread =
+    (Rose source.faults source.new_faults ⊎ HoldsNone source.files name)
     × (out.new_told ≡ out.told)
 EndsFile name source out TooLarge = IsTooLarge source.files name × (out.new_told ≡ out.told)
 EndsFile name source out ending = (text : List ℕ) × IsTextOf source.files name text

@@ -77,4 +77,5 @@ kind_named cat =
 -- the kind of span that an event is, if it is one: its `ph` is "X", and its `cat` is a kind
 unfoldable pub span_kind : List ℕ → Data → Option SpanKind
 span_kind ph event =
-    if bytes_eq ph (codes "X") then option_and_then kind_named (text_at (codes "cat") event) else None
+    if bytes_eq ph (codes "X") then option_and_then kind_named (text_at (codes "cat") event)
+    else None

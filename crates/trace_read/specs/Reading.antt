@@ -14,7 +14,8 @@ use Rattle.trace_read.specs.declared.reading.ReadError.TheVariants.{Json, Top, E
 
 infixl 10 ◌>>=◌
 -- what comes next, where nothing is refused before
-abbrev pub ◌>>=◌ : {A B : Type 0} → Result A ReadError → (A → Result B ReadError) → Result B ReadError
+abbrev pub ◌>>=◌ : {A B : Type 0} → Result A ReadError → (A → Result B ReadError)
+    → Result B ReadError
 Ok x >>= next = next x
 Err refusal >>= next = Err refusal
 

@@ -9,7 +9,8 @@ use Rattle.trace_read.specs.declared.checking.CheckError.TheVariants.{Workers, P
 
 infixl 10 ◌>>=◌
 -- what comes next, where nothing is refused before
-abbrev pub ◌>>=◌ : {A B : Type 0} → Result A CheckError → (A → Result B CheckError) → Result B CheckError
+abbrev pub ◌>>=◌ : {A B : Type 0} → Result A CheckError → (A → Result B CheckError)
+    → Result B CheckError
 Ok x >>= next = next x
 Err refusal >>= next = Err refusal
 

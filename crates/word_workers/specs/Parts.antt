@@ -43,4 +43,5 @@ pub record AllClaims (claim : Claimant) (count : ℕ) (drawn : List (List ℕ)) 
 abbrev pub EachOwn : {S : Type 0} → (S → List Placed) → List Piece → List (List ℕ)
     → (ℕ → Option Ticks) → ℕ → List (List ℕ) → List S → Type 0
 EachOwn {S} made plan texts clock workers drawn seats = (w : ℕ) (seat : S) → w < workers
-    → Worked plan texts (clock w) w (slice_index_or drawn w []) [] (made (slice_index_or seats w seat))
+    → Worked plan texts (clock w) w (slice_index_or drawn w []) []
+    (made (slice_index_or seats w seat))
