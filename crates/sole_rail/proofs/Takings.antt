@@ -18,7 +18,8 @@ use Rattle.sole_core.specs.declared.take_phase.SoleTake.{SoleTake}
 use Rattle.sole_core.specs.declared.take_phase.SoleTake.TheVariants.{Com, All, Word, Consume}
 use Rattle.sole_core.specs.Types.{After}
 use Rattle.sole_core.specs.Table.{table}
-use Rattle.sole_core.specs.TakeSteps.{empty, is_same, read_from, take_at}
+use Rattle.put_side.specs.PutSteps.{is_same}
+use Rattle.sole_core.specs.TakeSteps.{empty, read_from, take_at}
 use Rattle.sole_rail.specs.Consumer.{IsUnmoved}
 
 -- a take goes on as a take, and isn't told that a cursor moved
