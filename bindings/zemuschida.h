@@ -15,12 +15,14 @@
       consistent atomic.
    4. malloc, realloc and free are those of one allocator.
    5. No call is made from a signal handler, nor in the forked child of a process with threads.
+   6. The seats that a close is given are of one queue.
 
    Who may call what at the same time:
      a put or a take of one seat     puts and takes of all other seats
      a put of a log's seat           puts of its other seats, and takes of its consumer
      a view or look of a ring's seat puts, takes, views and looks of all other seats
      the making or giving up         anything of other seats
+     a close                         anything of other queues
 
    The library is for x86-64 (x86-64-v2) and Linux. */
 #ifndef ZEMUSCHIDA_H
@@ -42,8 +44,9 @@ extern "C" {
 #define ZEM_MOVED 4u      /* another call was in the way: first, second */
 #define ZEM_OVERRUN 5u    /* take of a ring: place, first. What the call read was overwritten */
 #define ZEM_UNOPENED 6u   /* look at a block of a ring: no put has come to it */
+#define ZEM_GIVEN_UP 7u   /* close: the queue has an owner beside the seats. They are given up */
 /* Refusals: nothing was done. */
-#define ZEM_CLOSED 16u     /* the seat is {0} */
+#define ZEM_CLOSED 16u     /* a handle is {0} */
 #define ZEM_WIDTH 17u      /* not as many words as the queue's entries have */
 #define ZEM_SPENT 18u      /* the seat had as many entries accepted as a seat may (at least 2^32) */
 #define ZEM_MEMORY 19u     /* no memory */
@@ -53,6 +56,7 @@ extern "C" {
 #define ZEM_BAD_SEATS 23u  /* a queue has 1 to 1024 seats; a log's consumer has one of them */
 #define ZEM_ROOM 24u       /* zem_ring_view: a view has more items, or more gaps, than there is room */
 #define ZEM_BAD_BLOCK 25u  /* look at a block: the first has the number of how many blocks there are */
+#define ZEM_NOT_ALL_SEATS 26u /* close: the queue has other seats than these */
 
 /* Hold no two seats of different threads on one cache line. */
 typedef struct zem_seat {
@@ -74,6 +78,12 @@ typedef struct zem_log_consumer {
     bool full;
     void *at;
 } zem_log_consumer;
+
+/* What a closed queue had. It begins as {0}, too, and goes with zem_done. */
+typedef struct zem_closed {
+    bool full;
+    void *at;
+} zem_closed;
 
 typedef struct zem_cursor {
     uint64_t block, offset;
@@ -108,6 +118,11 @@ typedef struct zem_look {
     zem_cursor committed, allocated;
 } zem_look;
 
+/* How many entries a closed queue had accepted, and how many of them were left. */
+typedef struct zem_closed_counts {
+    uint64_t accepted, left;
+} zem_closed_counts;
+
 /* Makes a queue with a seat for each of the n handles. A seat that a handle had is given up. */
 uint32_t zem_make(uint64_t blocks, uint64_t size, uint64_t width, zem_seat *seats, size_t n);
 /* Puts an entry of width words. A refusal leaves *answer as it was. */
@@ -116,6 +131,16 @@ uint32_t zem_put(zem_seat *seat, const uint64_t *entry, size_t width, zem_answer
 uint32_t zem_take(zem_seat *seat, uint64_t *out, size_t width, zem_answer *answer);
 /* Gives up a seat, and leaves {0}. */
 void zem_free(zem_seat *seat);
+/* Closes a queue with all its n seats, in any order, and leaves {0} in their handles. What the queue
+   had goes into *closed. It takes its memory before its first step. */
+uint32_t zem_close(zem_seat *seats, size_t n, zem_closed *closed);
+/* Tells how much a closed queue had. */
+uint32_t zem_counts(zem_closed *closed, zem_closed_counts *counts);
+/* Copies the left entry of a number, from 0 on in order of place, or answers ZEM_EMPTY behind the
+   last, and leaves *out and *place as they were. */
+uint32_t zem_left(zem_closed *closed, size_t number, uint64_t *out, size_t width, uint64_t *place);
+/* Gives up what a closed queue had, and leaves {0}. */
+void zem_done(zem_closed *closed);
 
 /* The same for a queue that overwrites. No put is answered ZEM_FULL, and after ZEM_OVERRUN the words
    hold any numbers. */
@@ -141,6 +166,7 @@ uint32_t zem_ring_look_block(zem_ring_seat *seat, uint64_t block, zem_look *look
 uint32_t zem_ring_look_entry(zem_ring_seat *seat, uint64_t block, uint64_t offset, uint64_t *out,
                              size_t width, zem_look *look);
 void zem_ring_free(zem_ring_seat *seat);
+uint32_t zem_ring_close(zem_ring_seat *seats, size_t n, zem_closed *closed);
 
 /* The same for a log, which is made with its consumer and n seats that put. */
 uint32_t zem_log_make(uint64_t blocks, uint64_t size, uint64_t width, zem_log_consumer *consumer,
@@ -160,7 +186,8 @@ static inline const char *zem_text(uint32_t code) {
     case ZEM_MOVED: return "another call was in the way";
     case ZEM_OVERRUN: return "the entry was overwritten";
     case ZEM_UNOPENED: return "the block isn't opened";
-    case ZEM_CLOSED: return "there is no seat";
+    case ZEM_GIVEN_UP: return "the queue has another owner, and its seats are given up";
+    case ZEM_CLOSED: return "the handle is empty";
     case ZEM_WIDTH: return "an entry has another number of words";
     case ZEM_SPENT: return "the seat has put as many entries as it may";
     case ZEM_MEMORY: return "there is no memory";
@@ -170,6 +197,7 @@ static inline const char *zem_text(uint32_t code) {
     case ZEM_BAD_SEATS: return "a queue has 1 to 1024 seats";
     case ZEM_ROOM: return "a view has no room";
     case ZEM_BAD_BLOCK: return "there is no block of this number";
+    case ZEM_NOT_ALL_SEATS: return "the queue has other seats, too";
     default: return "no code of this library";
     }
 }

@@ -175,4 +175,71 @@ static int logging(void) {
     return 0;
 }
 
-int main(void) { return refusals() || refusing() || overwriting() || viewing() || looking() || logging(); }
+static int closing(void) {
+    zem_seat seats[3] = {{0}}, moved;
+    zem_closed closed = {0};
+    zem_closed_counts counts = {7, 7};
+    uint64_t entry[1] = {7}, wide[2] = {0}, place = 7;
+    zem_answer answer;
+    WANT(zem_close(seats, 3, &closed) == ZEM_CLOSED);
+    WANT(zem_close(seats, 0, &closed) == ZEM_NOT_ALL_SEATS);
+    WANT(zem_counts(&closed, &counts) == ZEM_CLOSED && counts.left == 7);
+    WANT(zem_left(&closed, 0, entry, 1, &place) == ZEM_CLOSED && place == 7 && entry[0] == 7);
+    WANT(zem_make(4, 2, 1, seats, 3) == ZEM_OK);
+    for (uint64_t i = 0; i < 5; i++) {
+        entry[0] = 10 * i;
+        WANT(zem_put(&seats[i % 3], entry, 1, &answer) == ZEM_OK);
+    }
+    for (uint64_t i = 0; i < 2; i++) {
+        WANT(zem_take(&seats[i], entry, 1, &answer) == ZEM_OK && answer.place == i);
+    }
+    WANT(zem_close(seats, 2, &closed) == ZEM_NOT_ALL_SEATS && !closed.full);
+    WANT(seats[0].full && seats[1].full && seats[2].full);
+    WANT(zem_put(&seats[2], entry, 1, &answer) == ZEM_OK && answer.place == 5);
+    moved = seats[0], seats[0] = seats[2], seats[2] = moved; /* in any order */
+    WANT(zem_close(seats, 3, &closed) == ZEM_OK && closed.full);
+    WANT(!seats[0].full && !seats[1].full && !seats[2].full);
+    WANT(zem_put(&seats[0], entry, 1, &answer) == ZEM_CLOSED);
+    WANT(zem_counts(&closed, &counts) == ZEM_OK && counts.accepted == 6 && counts.left == 4);
+    WANT(zem_left(&closed, 0, wide, 2, &place) == ZEM_WIDTH && place == 7);
+    for (uint64_t i = 0; i < 3; i++) {
+        WANT(zem_left(&closed, i, entry, 1, &place) == ZEM_OK && place == i + 2);
+        WANT(entry[0] == 10 * place);
+    }
+    WANT(zem_left(&closed, 4, entry, 1, &place) == ZEM_EMPTY && place == 4 && entry[0] == 40);
+    WANT(zem_make(2, 2, 1, seats, 3) == ZEM_OK);
+    WANT(zem_close(seats, 3, &closed) == ZEM_OK); /* what the other queue had is given up */
+    WANT(zem_counts(&closed, &counts) == ZEM_OK && counts.accepted == 0 && counts.left == 0);
+    zem_done(&closed), zem_done(&closed);
+    WANT(zem_counts(&closed, &counts) == ZEM_CLOSED);
+    return 0;
+}
+
+static int closing_a_ring(void) {
+    zem_ring_seat seats[2] = {{0}};
+    zem_closed closed = {0};
+    zem_closed_counts counts;
+    uint64_t entry[2], place;
+    zem_answer answer;
+    WANT(zem_ring_close(seats, 2, &closed) == ZEM_CLOSED);
+    WANT(zem_ring_make(2, 2, 2, seats, 2) == ZEM_OK);
+    for (uint64_t i = 0; i < 99; i++) {
+        entry[0] = i, entry[1] = 2 * i;
+        WANT(zem_ring_put(&seats[i % 2], entry, 2, &answer) == ZEM_OK);
+    }
+    WANT(zem_ring_take(&seats[0], entry, 2, &answer) == ZEM_OK && answer.place == 96);
+    WANT(zem_ring_close(seats, 1, &closed) == ZEM_NOT_ALL_SEATS && seats[0].full);
+    WANT(zem_ring_close(seats, 2, &closed) == ZEM_OK && !seats[0].full && !seats[1].full);
+    WANT(zem_counts(&closed, &counts) == ZEM_OK && counts.accepted == 99 && counts.left == 2);
+    for (uint64_t i = 0; i < 2; i++) {
+        WANT(zem_left(&closed, i, entry, 2, &place) == ZEM_OK && place == 97 + i);
+        WANT(entry[0] == place && entry[1] == 2 * place);
+    }
+    zem_done(&closed);
+    return 0;
+}
+
+int main(void) {
+    return refusals() || refusing() || overwriting() || viewing() || looking() || logging()
+           || closing() || closing_a_ring();
+}

@@ -19,11 +19,16 @@
 //! ```
 #![deny(unsafe_op_in_unsafe_fn, missing_docs)]
 
+mod closed;
 mod errors;
 mod look;
 mod sys;
 mod view;
 
+use std::sync::atomic::{AtomicU64, Ordering};
+
+use closed::Closing;
+pub use closed::{CloseError, Closed};
 pub use errors::{Busy, Cursor, MakeError, PutError, TakeError, ViewError};
 pub use look::{BlockLook, LookError};
 use sys::Answer;
@@ -38,12 +43,14 @@ const FIRST_ROOM: usize = 512;
 #[repr(align(128))]
 pub struct Seat<const W: usize> {
     raw: sys::Seat,
+    queue: u64,
 }
 
 /// A seat of a queue that overwrites.
 #[repr(align(128))]
 pub struct RingSeat<const W: usize> {
     raw: sys::Seat,
+    queue: u64,
 }
 
 /// The right of one caller to put into a queue from which only its consumer takes.
@@ -99,7 +106,8 @@ pub fn queue<const W: usize>(
     seats: usize,
 ) -> Result<Vec<Seat<W>>, MakeError> {
     let raw = make(sys::zem_make, blocks, size, W, seats)?;
-    Ok(raw.into_iter().map(|raw| Seat { raw }).collect())
+    let queue = next_queue();
+    Ok(raw.into_iter().map(|raw| Seat { raw, queue }).collect())
 }
 
 /// Makes a queue that drops its oldest block of entries when it is full, and hands out its seats.
@@ -118,7 +126,11 @@ pub fn ring<const W: usize>(
     seats: usize,
 ) -> Result<Vec<RingSeat<W>>, MakeError> {
     let raw = make(sys::zem_ring_make, blocks, size, W, seats)?;
-    Ok(raw.into_iter().map(|raw| RingSeat { raw }).collect())
+    let queue = next_queue();
+    Ok(raw
+        .into_iter()
+        .map(|raw| RingSeat { raw, queue })
+        .collect())
 }
 
 /// Makes a queue that refuses entries when it is full, and which one caller takes from: its
@@ -145,6 +157,80 @@ pub fn log<const W: usize>(
     made(code)?;
     let producers = raw.into_iter().map(|raw| Producer { raw }).collect();
     Ok((producers, Consumer { raw: consumer }))
+}
+
+/// Closes a queue with all its seats, in any order. Its entries that are left can be read then.
+///
+/// ```
+/// let mut seats = zemuschida::queue::<1>(4, 2, 2)?;
+/// for i in 0..5 {
+///     seats[i % 2].put(&[10 * i as u64])?;
+/// }
+/// seats[1].take()?;
+/// let closed = zemuschida::close(seats)?;
+/// let left: Vec<_> = closed.collect();
+/// assert_eq!(left, [(1, [10]), (2, [20]), (3, [30]), (4, [40])]);
+/// # Ok::<(), Box<dyn std::error::Error>>(())
+/// ```
+///
+/// Seats of two queues are refused:
+///
+/// ```
+/// let mut seats = zemuschida::queue::<1>(2, 2, 1)?;
+/// seats.append(&mut zemuschida::queue::<1>(2, 2, 1)?);
+/// assert!(zemuschida::close(seats).is_err());
+/// # Ok::<(), zemuschida::MakeError>(())
+/// ```
+pub fn close<const W: usize>(seats: Vec<Seat<W>>) -> Result<Closed<W>, CloseError<Seat<W>>> {
+    closed::close(seats)
+}
+
+/// Closes a ring with all its seats, in any order.
+///
+/// ```
+/// let mut seats = zemuschida::ring::<1>(2, 2, 1)?;
+/// for i in 0..100 {
+///     seats[0].put(&[i])?;
+/// }
+/// seats[0].take()?;
+/// let left: Vec<_> = zemuschida::close_ring(seats)?.collect();
+/// assert_eq!(left, [(97, [97]), (98, [98]), (99, [99])]);
+/// # Ok::<(), Box<dyn std::error::Error>>(())
+/// ```
+pub fn close_ring<const W: usize>(
+    seats: Vec<RingSeat<W>>,
+) -> Result<Closed<W>, CloseError<RingSeat<W>>> {
+    closed::close(seats)
+}
+
+impl<const W: usize> Closing for Seat<W> {
+    const CLOSE: sys::Close = sys::zem_close;
+
+    fn queue(&self) -> u64 {
+        self.queue
+    }
+
+    fn raw(&mut self) -> &mut sys::Seat {
+        &mut self.raw
+    }
+}
+
+impl<const W: usize> Closing for RingSeat<W> {
+    const CLOSE: sys::Close = sys::zem_ring_close;
+
+    fn queue(&self) -> u64 {
+        self.queue
+    }
+
+    fn raw(&mut self) -> &mut sys::Seat {
+        &mut self.raw
+    }
+}
+
+// A number that no queue had.
+fn next_queue() -> u64 {
+    static QUEUES: AtomicU64 = AtomicU64::new(0);
+    QUEUES.fetch_add(1, Ordering::Relaxed)
 }
 
 fn make(

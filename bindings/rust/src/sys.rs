@@ -10,16 +10,18 @@ pub const MOVED: u32 = 4;
 pub const OVERRUN: u32 = 5;
 pub const UNOPENED: u32 = 6;
 pub const SPENT: u32 = 18;
+pub const MEMORY: u32 = 19;
 pub const BAD_BLOCKS: u32 = 20;
 pub const BAD_SIZE: u32 = 21;
 pub const BAD_WIDTH: u32 = 22;
 pub const BAD_SEATS: u32 = 23;
 pub const ROOM: u32 = 24;
 pub const BAD_BLOCK: u32 = 25;
+pub const NOT_ALL_SEATS: u32 = 26;
 /// One more than a queue may have.
 pub const TOO_MANY_SEATS: usize = 1025;
 
-/// `zem_seat` and the other seats.
+/// `zem_seat` and the other handles.
 #[repr(C)]
 pub struct Seat {
     full: bool,
@@ -79,6 +81,14 @@ pub struct Look {
     pub allocated: Cursor,
 }
 
+#[repr(C)]
+#[derive(Clone, Copy, Default)]
+pub struct Counts {
+    pub accepted: u64,
+    pub left: u64,
+}
+
+pub type Close = unsafe extern "C" fn(*mut Seat, usize, *mut Seat) -> u32;
 pub type Make = unsafe extern "C" fn(u64, u64, u64, *mut Seat, usize) -> u32;
 pub type Put = unsafe extern "C" fn(*mut Seat, *const u64, usize, *mut Answer) -> u32;
 pub type Take = unsafe extern "C" fn(*mut Seat, *mut u64, usize, *mut Answer) -> u32;
@@ -88,6 +98,17 @@ extern "C" {
     pub fn zem_put(seat: *mut Seat, entry: *const u64, width: usize, answer: *mut Answer) -> u32;
     pub fn zem_take(seat: *mut Seat, out: *mut u64, width: usize, answer: *mut Answer) -> u32;
     pub fn zem_free(seat: *mut Seat);
+    pub fn zem_close(seats: *mut Seat, n: usize, closed: *mut Seat) -> u32;
+    pub fn zem_ring_close(seats: *mut Seat, n: usize, closed: *mut Seat) -> u32;
+    pub fn zem_counts(closed: *mut Seat, counts: *mut Counts) -> u32;
+    pub fn zem_left(
+        closed: *mut Seat,
+        number: usize,
+        out: *mut u64,
+        width: usize,
+        place: *mut u64,
+    ) -> u32;
+    pub fn zem_done(closed: *mut Seat);
     pub fn zem_ring_make(blocks: u64, size: u64, width: u64, seats: *mut Seat, n: usize) -> u32;
     pub fn zem_ring_put(
         seat: *mut Seat,

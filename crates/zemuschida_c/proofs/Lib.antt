@@ -1,4 +1,5 @@
 pub mod Boxes
+pub mod Counting
 pub mod Dealing
 pub mod Filling
 pub mod Words

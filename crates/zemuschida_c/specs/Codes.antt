@@ -31,6 +31,9 @@ overrun = 5
 abbrev pub unopened : ℕ
 unopened = 6
 
+abbrev pub given_up : ℕ
+given_up = 7
+
 -- refusals, which do nothing
 abbrev pub no_seat : ℕ
 no_seat = 16
@@ -61,6 +64,9 @@ no_room = 24
 
 abbrev pub bad_block : ℕ
 bad_block = 25
+
+abbrev pub not_all_seats : ℕ
+not_all_seats = 26
 
 abbrev pub shown : Cursor → ZemCursor
 shown c = record { block = c.block; offset = c.offset }

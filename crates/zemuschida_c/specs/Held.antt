@@ -3,7 +3,7 @@ use mathlib.Core.Bool.{Bool, true, false}
 use Rattle.std.specs.declared.option.Option.{Option}
 use Rattle.std.specs.declared.option.Option.TheVariants.{None, Some}
 use Rattle.zemuschida_c.specs.declared.held.Held.{Held}
-use Rattle.zemuschida_c.specs.declared.held.Held.TheVariants.{Seat, RingSeat, LogSeat, LogConsumer}
+use Rattle.zemuschida_c.specs.declared.held.Held.TheVariants.{Seat, RingSeat, LogSeat, LogConsumer, Closed}
 
 -- whether there is a value
 abbrev pub is_full : {A : Type 0} → Option A → Bool
@@ -30,3 +30,7 @@ is_log_seat held = false
 abbrev pub is_log_consumer : Held → Bool
 is_log_consumer (LogConsumer seat) = true
 is_log_consumer held = false
+
+abbrev pub is_closed : Held → Bool
+is_closed (Closed ended) = true
+is_closed held = false

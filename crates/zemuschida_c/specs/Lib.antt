@@ -1,4 +1,5 @@
 pub mod Calls
+pub mod Closed
 pub mod Codes
 pub mod Held
 pub mod Looked

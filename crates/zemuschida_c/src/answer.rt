@@ -22,6 +22,8 @@ pub const OVERRUN: u32 = 5;
 
 pub const UNOPENED: u32 = 6;
 
+pub const GIVEN_UP: u32 = 7;
+
 pub const CLOSED: u32 = 16;
 
 pub const WIDTH: u32 = 17;
@@ -42,6 +44,8 @@ pub const ROOM: u32 = 24;
 
 pub const BAD_BLOCK: u32 = 25;
 
+pub const NOT_ALL_SEATS: u32 = 26;
+
 /// A block number and an offset in it.
 #[repr(C)]
 #[derive(Clone, Copy)]
@@ -60,7 +64,7 @@ pub struct ZemAnswer {
     pub second: ZemCursor,
 }
 
-/// What a look at a block found: how many entries it has, where they are all there, and its cursors.
+/// What a look at a block found: how many entries it has, where all are there, and its cursors.
 #[repr(C)]
 #[derive(Clone, Copy)]
 pub struct ZemLook {

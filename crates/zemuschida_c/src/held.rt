@@ -3,6 +3,7 @@ ghost use Rattle.std.specs.Prelude.{◌≡◌, IfOk};
 ghost use Rattle.std.specs.Mem.{manually_drop_value};
 
 use crate::consumer::Consumer;
+use crate::ended::Ended;
 use crate::own::OwnSeat;
 use drop_rail::DropRail;
 use retry_rail::RetryRail;
@@ -11,13 +12,14 @@ use std::alloc::{AllocError, Global};
 use std::mem::ManuallyDrop;
 
 /// A seat of a queue that refuses, of one that overwrites, or of one with a sole consumer, whose
-/// seat is of a kind of its own.
+/// seat is of a kind of its own; or what a closed queue had.
 #[derive(Drop)]
 pub enum Held {
     Seat(OwnSeat<RetryRail>),
     RingSeat(OwnSeat<DropRail>),
     LogSeat(OwnSeat<SoleRail>),
     LogConsumer(Consumer),
+    Closed(Ended),
 }
 
 /// It stays on the heap while its pointer is with C, whatever code is left by then.

@@ -1,6 +1,6 @@
 //! The handles that C holds, one for each kind of seat.
 ghost use Rattle.std.specs.Prelude.{◌≡◌, true};
-ghost use Rattle.zemuschida_c.specs.Held.{fits, is_log_consumer, is_log_seat, is_ring_seat, is_seat};
+ghost use Rattle.zemuschida_c.specs.Held.{fits, is_closed, is_log_consumer, is_log_seat, is_ring_seat, is_seat};
 
 use crate::answer::ZemAnswer;
 use crate::calls::{Putting, SeatHandle, Taking};
@@ -42,6 +42,14 @@ pub struct ZemLogSeat {
 pub struct ZemLogConsumer {
     pub(crate) handle: Handle,
     ghost kind: { fits is_log_consumer handle.slot.value ≡ true },
+}
+
+/// What a closed queue had, or nothing.
+#[repr(C)]
+#[derive(Drop)]
+pub struct ZemClosed {
+    pub(crate) handle: Handle,
+    ghost kind: { fits is_closed handle.slot.value ≡ true },
 }
 
 impl SeatHandle for ZemSeat {

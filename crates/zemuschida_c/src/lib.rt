@@ -3,7 +3,12 @@
 
 mod answer;
 mod calls;
+mod close;
+mod closed;
+mod closing;
 mod consumer;
+mod ended;
+mod endings;
 mod handle;
 mod held;
 mod kinds;
@@ -18,7 +23,9 @@ mod slot;
 mod view;
 
 pub use answer::{ZemAnswer, ZemCursor, ZemLook};
-pub use kinds::{ZemLogConsumer, ZemLogSeat, ZemRingSeat, ZemSeat};
+pub use close::{zem_close, zem_ring_close};
+pub use closed::{ZemCounts, zem_counts, zem_done, zem_left};
+pub use kinds::{ZemClosed, ZemLogConsumer, ZemLogSeat, ZemRingSeat, ZemSeat};
 pub use log::{zem_log_consumer_free, zem_log_free, zem_log_make, zem_log_put, zem_log_take};
 pub use look::{zem_ring_look_block, zem_ring_look_entry, zem_ring_look_head};
 pub use queue::{zem_free, zem_make, zem_put, zem_take};

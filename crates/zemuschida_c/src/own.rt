@@ -2,6 +2,7 @@
 ghost use Rattle.std.specs.Prelude.{◌≡◌, ◌≢◌, ◌<◌, ◌≤◌, length, slice_index};
 ghost use Rattle.std.specs.Arc.{arc_value};
 ghost use Rattle.cursor_word.specs.Cursor.{most_puts};
+ghost use Rattle.cursor_word.specs.Shape.{IsWithinLimits};
 ghost use Rattle.block_looks.specs.Shown.{IsNewest};
 ghost use Rattle.block_looks.specs.declared.look.LookAfter.TheVariants as after;
 ghost use Rattle.block_looks.specs.declared.look.LookPhase.TheVariants as phase;
@@ -15,7 +16,7 @@ use crate::answer::{
     BAD_BLOCK, EMPTY, OK, OVERRUN, SPENT, WIDTH, ZemAnswer, ZemLook, give_look, give_put,
     give_take, show,
 };
-use cursor_word::Cursor;
+use cursor_word::{Cursor, Shape};
 use drop_rail::{DropRail, Look, Seen};
 use flight_view::{View, flight_view};
 use rail::Rail;
@@ -62,6 +63,30 @@ impl<Q: Rail> OwnSeat<Q> {
         ensures { Q.PutsInto self.now.rail self.now.seat }
     {
         let _rail = &self.rail;
+    }
+
+    /// The shape of its queue.
+    pub(crate) fn shape(&self) -> Shape
+        ensures shape { result ≡ Q.shape_of self.now.rail }
+        ensures limits { IsWithinLimits result }
+    {
+        self.rail.shape()
+    }
+
+    /// The seat alone.
+    pub(crate) fn seat(&self) -> &Q::Seat
+        ensures { result.now ≡ self.now.seat }
+    {
+        &self.seat
+    }
+
+    /// The seat, and what owned its queue.
+    pub(crate) fn into_parts(self) -> (Arc<Q, Global>, Q::Seat)
+        ensures rail { arc_value result.0 ≡ self.rail }
+        ensures seat { result.1 ≡ self.seat }
+    {
+        let OwnSeat { rail, seat, .. } = self;
+        (rail, seat)
     }
 
     /// Puts an entry of the queue's width, where the seat isn't spent.
