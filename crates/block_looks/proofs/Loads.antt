@@ -25,7 +25,7 @@ use Rattle.put_side.proofs.Lows.{rows}
 use Rattle.put_side.proofs.Choices.{by_equal}
 use Rattle.drop_core.proofs.Loads.{committed_from}
 use Rattle.put_side.proofs.Moments.{made_words_at}
-use Rattle.drop_core.proofs.Verifies.{made_below, overrun}
+use Rattle.drop_core.proofs.Reserves.{made_below, overrun}
 use Rattle.block_looks.specs.declared.look.Look.TheVariants as look
 use Rattle.block_looks.specs.declared.look.Seen.TheVariants as seen
 use Rattle.block_looks.specs.declared.look.LookPhase.{LookPhase}

@@ -25,7 +25,7 @@ use Rattle.drop_core.proofs.Loads.{committed_from, knows_take}
 use Rattle.drop_core.proofs.Lone.{IsHere, Leads, StepLeads, calm_of, empty_is, full_is, last_is, live_is, loaded, ok_is, put_here}
 use Rattle.drop_core.proofs.Frames.{raised}
 use Rattle.put_side.proofs.Items.{made_counts}
-use Rattle.drop_core.proofs.Verifies.{head_opened}
+use Rattle.drop_core.proofs.Reserves.{head_opened}
 
 module _ (g : Grid) (n next : ℕ) (f : Front) (ws : List ℕ) (vs : List View) (id : ℕ) (v : View) where
   abbrev Here : DropTake → Type 0

@@ -27,7 +27,7 @@ use Rattle.drop_core.specs.Words.{cursors}
 use Rattle.drop_core.specs.Sound.{IsSoundAt, TakeKnows, IsSound}
 use Rattle.drop_core.proofs.Loads.{knows_take, turn_of, keeps_HeadC, keeps_Jump, keeps_NextCom, keeps_SeeAll, keeps_SeeCom, keeps_SeeM, keeps_SeeRes}
 use Rattle.drop_core.proofs.CallTable.{follows}
-use Rattle.drop_core.proofs.Verifies.{head_opened, keeps_Read, keeps_Verify}
+use Rattle.drop_core.proofs.Reserves.{head_opened, keeps_Read, keeps_Verify}
 use Rattle.drop_core.proofs.Puts.{keeps_put}
 use Rattle.drop_core.proofs.Reserves.{keeps_OpenR, keeps_RaiseC, keeps_Reserve}
 use Rattle.drop_core.proofs.Starts.{begins_at, starts}

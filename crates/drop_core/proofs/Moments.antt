@@ -17,7 +17,7 @@ use Rattle.drop_core.specs.Laws.{TakenOnce}
 use Rattle.put_side.proofs.Few.{last_small}
 use Rattle.put_side.proofs.Moments as side
 use Rattle.put_side.proofs.Moments.{places_dense}
-use Rattle.drop_core.proofs.Verifies.{head_opened}
+use Rattle.drop_core.proofs.Reserves.{head_opened}
 
 pub dense : (g : Grid) (w : MachineState DropPhase) → IsSound g w.words w.views → PlacesAreDense stage g w.views
 dense g w s = places_dense stage g s.front w.words w.views s.at.puts

@@ -18,7 +18,7 @@ use Rattle.drop_core.specs.Types.{View}
 use Rattle.drop_core.specs.Gathered.{IsSettled, left_in}
 use Rattle.drop_core.specs.Sound.{IsSound}
 use Rattle.drop_core.specs.Steps.{table}
-use Rattle.drop_core.proofs.Leaves.{left_is}
+use Rattle.drop_core.proofs.Settles.{left_is}
 use Rattle.drop_core.proofs.Settles.{settled}
 use Rattle.call_steps.specs.Queue.{SeatedWith}
 use Rattle.shared_seats.specs.Seats.{HasStopped, in_order, made_by_all, taken_by_all, views_of_all}

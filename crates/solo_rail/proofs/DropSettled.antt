@@ -11,7 +11,7 @@ use Rattle.call_laws.specs.Left.{unreserved_in}
 use Rattle.drop_core.specs.Gathered.{IsSettled, left_in}
 use Rattle.drop_core.specs.Types.{MachineState, View}
 use Rattle.drop_core.specs.Sound.{IsSound}
-use Rattle.drop_core.proofs.Leaves.{left_is}
+use Rattle.drop_core.proofs.Settles.{left_is}
 use Rattle.drop_core.proofs.Moments.{made_rises, taken_rises}
 use Rattle.drop_core.proofs.Settles.{settled}
 use Rattle.solo_rail.specs.Solo.{HasStopped}

@@ -1,7 +1,7 @@
 use Rattle.machine.proofs.Answered.{answered}
 use Rattle.drop_core.specs.Steps.{table}
-use Rattle.drop_core.proofs.LoneLaw.{overrun_overlapped, put_overlapped, take_overlapped}
-use Rattle.drop_core.proofs.Shown.{empty_shown, never_full, overrun_shown, put_busy, take_busy, trail_is}
+use Rattle.drop_core.proofs.AloneCalls.{overrun_overlapped, put_overlapped, take_overlapped}
+use Rattle.drop_core.proofs.Recalled.{empty_shown, never_full, overrun_shown, put_busy, take_busy, trail_is}
 use Rattle.drop_core.proofs.causes.drop_law_causes.Goals as goal
 
 pub returns-clause-full : goal.returns-clause-full

@@ -1,4 +1,4 @@
-use Rattle.drop_core.proofs.LoneLaw.{alone_answers, unmixed_answers}
+use Rattle.drop_core.proofs.AloneCalls.{alone_answers, unmixed_answers}
 use Rattle.drop_core.proofs.rest.drop_law_rest.Goals as goal
 
 pub returns-clause-alone : goal.returns-clause-alone
