@@ -11,6 +11,8 @@ use Rattle.rail.specs.declared.entry.Placed.{Placed}
 use Rattle.rail.specs.Items.{places}
 use Rattle.machine.specs.declared.view.View.{View}
 use Rattle.put_side.specs.Counts.{one_at, times}
+use Rattle.put_side.specs.Gathered.{all_made, all_taken}
+use Rattle.put_side.specs.Laws.{TakenIsMade}
 use Rattle.put_side.proofs.Sums.{times-cons}
 use Rattle.put_side.proofs.Orders.{places_append, times_append}
 
@@ -45,6 +47,13 @@ module _ {P : Type 0} where
   stands_in f (v ∷ vs) x c =
       ⊎_elim (λ k. record { seat = 0; view = v; at = refl; number = k.0; there = slice_get-get_or (f v) k.0 x k.1 ∙ ap Some k.2 })
       (λ k. later f v vs x (stands_in f vs x k)) (Contains-append_cases (f v) (flat_map f vs) x (subst (λ (l : List Placed). Contains l x) (flat_map-cons f v vs) c))
+
+  -- what is taken is made, so it stands at its place among what is made
+  pub taken_stands : (vs : List (View P)) → TakenIsMade vs → (x : Placed) → Contains (all_taken vs) x → Contains (all_made vs) x
+  taken_stands vs made x c =
+      let k = stands_in (λ (v : View P). v.taken) vs x c in
+      let m = made k.seat k.view k.at k.number x k.there in
+      has_in (λ (v : View P). v.made) vs m.seat m.number m.view x m.at m.there
 
 -- a list in which nothing stands twice
 apart_from : (x : ℕ) (ys : List ℕ) → times x ys ≡ 0 → AllByRecursion (λ y. nat_eq x y ≡ false) ys

@@ -1,5 +1,5 @@
--- Places are accepted in order of time.
-use Rattle.std.proofs.Common.{◌≡◌, ℕ, ◌+◌, ◌≤◌, Bool, true, false, List, [], ◌∷◌, ◌++◌, refl, sym, ap, ◌∙◌, subst, ⊎_elim, arith}
+-- Places are accepted in order of time, and what a seat has taken stays taken.
+use Rattle.std.proofs.Common.{◌≡◌, ◌≢◌, ℕ, suc, ◌+◌, ◌<◌, ◌≤◌, Bool, true, false, List, [], ◌∷◌, ◌++◌, refl, sym, ap, ◌∙◌, subst, ⊎_elim, arith}
 use Rattle.std.specs.Prelude.{Some, None, if◌then◌else◌, nat_lt}
 use Rattle.std.specs.List.{sum_by}
 use Rattle.std.proofs.lemmas.Bool.{cases_lt}
@@ -7,20 +7,24 @@ use Rattle.std.proofs.lemmas.List.{append-nil}
 use Rattle.cursor_word.specs.Shape.{Grid}
 use Rattle.cursor_word.specs.Cursor.{place_at}
 use Rattle.cursor_word.specs.declared.cursor.Cursor.{Cursor}
+use Rattle.rail.specs.declared.answer.Answer.{Answer}
 use Rattle.rail.specs.declared.answer.Answer.TheVariants as answer
 use Rattle.rail.specs.declared.answer.Put.TheVariants as put
+use Rattle.rail.specs.declared.answer.Take.TheVariants as take
 use Rattle.rail.specs.declared.entry.Placed.{Placed}
 use Rattle.rail.specs.Items.{placed, places}
 use Rattle.machine.specs.declared.event.Event.{Event}
 use Rattle.machine.specs.declared.event.Start.{Start}
 use Rattle.machine.specs.declared.event.Start.TheVariants as start
+use Rattle.machine.specs.declared.op.After.{After}
+use Rattle.machine.specs.declared.op.After.TheVariants.{Done}
 use Rattle.machine.specs.declared.view.View.{View}
 use Rattle.machine.specs.Table.{Table}
-use Rattle.machine.specs.Steps.{begun, made_after, seen}
-use Rattle.machine.specs.Moments.{EndsAt, IsInOrder, moment}
-use Rattle.machine.proofs.InTime.{Lasts, in_order, lasts_by, made_at_end}
-use Rattle.machine.proofs.Turns.{begun_made}
-use Rattle.put_side.specs.Counts.{claims, makes, one_below, times}
+use Rattle.machine.specs.Steps.{begun, made_after, seen, taken_after}
+use Rattle.machine.specs.Moments.{EndsAt, IsInOrder, IsLaterCall, moment}
+use Rattle.machine.proofs.InTime.{Lasts, in_order, lasts_by, made_at_end, named_lasts, taken_at_end}
+use Rattle.machine.proofs.Turns.{begun_made, begun_taken}
+use Rattle.put_side.specs.Counts.{claims, makes, one_below, takes, times}
 use Rattle.put_side.specs.Stages.{PutStage, held, put_after}
 use Rattle.put_side.specs.declared.put_phase.PutPhase.TheVariants.{HeadP, SeeA, AddA, Write, Commit, OpenM, OpenA, RaiseP}
 use Rattle.put_side.specs.Stages.{Away, At, Fills}
@@ -43,6 +47,28 @@ times_front p xs ys = let e = times_append p xs ys in omega arith
 pub once_dense : (total : ℕ → ℕ) (count : ℕ) → ((p : ℕ) → total p ≡ one_below p count) → (p q : ℕ) → q ≤ p → 1 ≤ total p → 1 ≤ total q
 once_dense total count once p q l h =
     ⊎_elim (λ less. let e = once q in let o = one_in q count (omega arith) in omega arith) (λ more. absurd (let e = once p in let z = none_from p count more in omega arith)) (cases_lt p count)
+
+takes_more : {P : Type 0} (taken : List Placed) (read : List ℕ) (p : ℕ) (b : After P) → times p (places taken) ≤ times p (places (taken_after taken read b))
+takes_more taken read p (Done (answer.Take (take.Ok place))) = let e = ap (times p) (places_append taken (placed place read ∷ [])) in let l = times_front p (places taken) (place ∷ []) in omega arith
+takes_more taken read p b = omega arith
+
+module _ {P : Type 0} (table : Table P) (g : Grid) where
+  begun_takes : (p : ℕ) (v : View P) (s : Start) → v.phase ≡ None → takes p v ≤ takes p (begun table g v None s)
+  begun_takes p v s e = let m = ap (λ (taken : List Placed). times p (places taken)) (begun_taken table g v None s) in omega arith
+
+  step_takes : (p : ℕ) (v : View P) (phase : P) (found : ℕ) → v.phase ≡ Some phase → takes p v ≤ takes p (seen table g v phase found)
+  step_takes p v phase found e = takes_more v.taken v.read p (table.after g phase found)
+
+  -- what a seat has taken stays taken
+  pub takes_last : (p : ℕ) → Lasts table g (takes p)
+  takes_last p = lasts_by table g (takes p) (begun_takes p) (step_takes p)
+
+  -- a take that ends well has taken its place
+  pub take_takes : (events : List Event) (i seat p : ℕ) (x : EndsAt table g events i seat (answer.Take (take.Ok p))) → takes p x.before + 1 ≤ takes p x.after
+  take_takes events i seat p x =
+      let m = taken_at_end table g events i seat p x in
+      let e = ap (λ (taken : List Placed). times p (places taken)) m.1 in
+      let n = counts_push x.before.taken p m.0 in omega arith
 
 holds_on : (g : Grid) (at : Cursor) (next : ℕ) (more : Bool) → held g (if more then At (Write at next) else At (Commit at)) ≡ place_at g at ∷ []
 holds_on g at next true = refl
@@ -112,6 +138,14 @@ module _ {P : Type 0} (stage : P → PutStage) (table : Table P) (puts : IsPutTa
         let m = made_at_end table g events i seat p x in
         let e = ap (λ (made : List Placed). times p (places made)) m.1 in
         let n = counts_push x.before.made p m.0 in omega arith
+
+    -- where nobody has made a place at a later call's end, it isn't that of the put
+    pub not_made_later : (i seat p j other place : ℕ) (a : Answer) → EndsAt table g events i seat (answer.Put (put.Ok p)) → IsLaterCall table g events i j other a
+        → sum_by (makes place) (moment table g events j).views ≡ 0 → place ≢ p
+    not_made_later i seat p j other place a ends later none same =
+        let before : i < j = let l = later.later in let c : later.first < suc j = later.call.later in omega arith in
+        let made = named_lasts table g events (makes p) (makes_last p) i j seat _ ends (put_makes i seat p ends) before in
+        let z = ap (λ (q : ℕ). sum_by (makes q) (moment table g events j).views) same in omega arith
 
     -- where accepted places are dense at each moment, puts are in order of time
     pub puts_in_order : ((n : ℕ) → (count : ℕ) × ((p : ℕ) → sum_by (claims (stage_of stage) g p) (moment table g events n).views ≡ one_below p count)) → IsInOrder table g events (λ p. answer.Put (put.Ok p))

@@ -35,6 +35,7 @@ pub mod PutTrails
 pub mod Lone
 pub mod AlonePuts
 pub mod LoneCalls
+pub mod AsOne
 pub mod PutOutcomes
 pub mod Full
 pub mod ShownSteps

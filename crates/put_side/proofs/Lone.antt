@@ -12,7 +12,8 @@ use Rattle.rail.specs.declared.entry.Placed.{Placed}
 use Rattle.rail.specs.Items.{places}
 use Rattle.machine.specs.declared.view.View.{View}
 use Rattle.machine.specs.Invariant.{made_count, made_total}
-use Rattle.machine.proofs.Lists.{get_set_other, sum_set}
+use Rattle.machine.specs.Steps.{AllRest}
+use Rattle.machine.proofs.Lists.{get_set, get_set_other, sum_set}
 use Rattle.put_side.specs.Alone.{OthersRest}
 use Rattle.put_side.specs.Counts.{claim_count, claims, makes, one_at, one_below, sum_below, times}
 use Rattle.put_side.specs.Cursors.{Front, allocated_word, committed_word, place, put_cursors}
@@ -49,6 +50,10 @@ module _ {P : Type 0} where
   -- a step of the one seat leaves the others at rest, and adds what it makes
   pub others_still : (vs : List (View P)) (id : ℕ) (v' : View P) → OthersRest vs id → OthersRest (slice_set vs id v') id
   others_still vs id v' rest j u d e = rest j u d (sym (get_set_other vs id j v' d) ∙ e)
+
+  -- and where it ends its call all are at rest
+  pub all_still : (vs : List (View P)) (id : ℕ) (v' : View P) → OthersRest vs id → v'.phase ≡ None → AllRest (slice_set vs id v')
+  all_still vs id v' others rest j u at = ⊎_elim (λ q. let z = ap (λ (x : View P). x.phase) q.1 in sym z ∙ rest) (λ q. others j u q.0 q.1) (get_set vs id j v' u at)
 
   pub total_grows : (f : View P → ℕ) (vs : List (View P)) (id d n : ℕ) (v v' : View P) → slice_get vs id ≡ Some v → f v' ≡ f v + d → sum_by f vs ≡ n → sum_by f (slice_set vs id v') ≡ n + d
   total_grows f vs id d n v v' at e total = let z = sum_set f vs id v v' at in omega arith

@@ -1,7 +1,8 @@
 -- What the trail of one seat shows, where no schedule is at hand: of a Busy answer that its two cursors were found, in this order.
-use Rattle.std.proofs.Common.{◌≡◌, ◌≢◌, ℕ, ◌<◌, List, [], ◌∷◌, ◌++◌, refl, ap, ◌∙◌, subst, arith}
+use Rattle.std.proofs.Common.{◌≡◌, ◌≢◌, ℕ, ◌<◌, List, [], ◌∷◌, ◌++◌, refl, sym, ap, ◌∙◌, subst, inl, arith}
 use Rattle.std.proofs.lemmas.List.{map-append}
 use Rattle.cursor_word.specs.Shape.{Grid}
+use Rattle.cursor_word.specs.Cursor.{packed, unpacked}
 use Rattle.cursor_word.specs.declared.cursor.Cursor.{Cursor}
 use Rattle.rail.specs.declared.entry.Placed.{Placed}
 use Rattle.rail.specs.declared.answer.Answer.TheVariants as answer
@@ -17,6 +18,7 @@ use Rattle.machine.specs.Ops.{noted}
 use Rattle.machine.specs.Table.{Table}
 use Rattle.call_laws.proofs.Trails.{ShowsTrail, in_order}
 use Rattle.put_side.specs.Causes.{first_found, second_found}
+use Rattle.put_side.proofs.Facts.{repacked}
 use Rattle.put_side.proofs.Recalled.{BusyFound}
 
 -- the trail has the two cursors of this reason
@@ -29,6 +31,10 @@ pair_found {P} shown spells Pair steps reason this f =
     let x : CallStep P = f.earlier.step in
     let y : CallStep P = f.later.step in
     in_order steps f.earlier.number f.later.number x y (first_found reason) (second_found reason) f.in_order f.earlier.at f.later.at (spells x.phase x.found (first_found reason) f.earlier.found) (spells y.phase y.found (second_found reason) f.later.found)
+
+-- a word that shows a cursor spells it
+pub word_spells : (word : ℕ) (c : Cursor) → unpacked word ≡ c → Spells word c
+word_spells word c is = inl (sym (repacked word) ∙ ap packed is)
 
 -- what a queue promises of a Busy answer
 pub busy_told : (trail : List ℕ) (reason : Why) → HasPair trail reason → first_found reason ≢ second_found reason → Shows trail reason

@@ -1,4 +1,4 @@
--- How often places are held and made, as sums over the views of all seats:
+-- How often places are held, made and taken, as sums over the views of all seats:
 -- the order of seats is of no matter.
 use Rattle.std.specs.Prelude.{◌≡◌, ℕ, zero, suc, ◌+◌, ◌%◌, ◌<◌, ◌≤◌, List, ◌++◌, ◌==◌, if◌then◌else◌, nat_lt, length}
 use Rattle.std.specs.List.{count_by, sum_by}
@@ -31,6 +31,17 @@ one_below p a = if nat_lt p a then 1 else 0
 -- how often a seat has made place p
 abbrev pub makes : {P : Type 0} → ℕ → View P → ℕ
 makes p view = times p (places view.made)
+
+-- how often a seat has taken place p
+abbrev pub takes : {P : Type 0} → ℕ → View P → ℕ
+takes p view = times p (places view.taken)
+
+-- how many entries a seat has taken, and how many all have
+abbrev pub taken_count : {P : Type 0} → View P → ℕ
+taken_count view = length view.taken
+
+abbrev pub taken_total : {P : Type 0} → List (View P) → ℕ
+taken_total views = sum_by taken_count views
 
 -- 1 for a seat that is about to add to the allocated cursor of this physical block, else 0
 abbrev pub adds_in : Grid → ℕ → PutStage → ℕ

@@ -13,4 +13,5 @@ pub mod Settled
 pub mod Laws
 pub mod Causes
 pub mod Alone
+pub mod AsOne
 pub mod Full
