@@ -7,7 +7,7 @@ use Rattle.machine.proofs.Lists.{get_replicate}
 use Rattle.machine.proofs.Turns.{start_total}
 use Rattle.bbq_core.specs.declared.phase.Phase.{Phase}
 use Rattle.bbq_core.specs.Types.{View}
-use Rattle.bbq_core.specs.Counts.{taken_count}
+use Rattle.put_side.specs.Counts.{taken_count}
 use Rattle.bbq_core.specs.Alone.{IsStill}
 use Rattle.bbq_core.proofs.Starts.{starts}
 

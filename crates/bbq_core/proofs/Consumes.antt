@@ -16,7 +16,7 @@ use Rattle.machine.specs.declared.op.After.TheVariants.{Next}
 use Rattle.machine.specs.Steps.{view_after, words_after}
 use Rattle.machine.proofs.Lists.{sum_set}
 use Rattle.put_side.specs.Cursors.{Front, consumed_word, place}
-use Rattle.put_side.specs.Counts.{makes, one_at, sum_below, times}
+use Rattle.put_side.specs.Counts.{makes, one_at, sum_below, takes, times}
 use Rattle.put_side.specs.Entries.{IsMade}
 use Rattle.put_side.specs.Stages.{Away}
 use Rattle.put_side.specs.PutTable.{stage_in}
@@ -33,7 +33,7 @@ use Rattle.bbq_core.specs.Types.{View}
 use Rattle.bbq_core.specs.Table.{table}
 use Rattle.bbq_core.specs.Stage.{stage, stage_of}
 use Rattle.bbq_core.specs.Cursors.{TakeCursors, TakeWords, take_cursors}
-use Rattle.bbq_core.specs.Counts.{fetch_count, fetched, fetches, reading, reading_in, takes}
+use Rattle.bbq_core.specs.Counts.{fetch_count, fetched, fetches, reading, reading_in}
 use Rattle.bbq_core.specs.Sound.{IsSoundAt, TakeKnows, scene}
 use Rattle.bbq_core.proofs.Frames.{IsLater, after_step, fits_later, knows_later, quiet, take_cursors_are, raised_later}
 use Rattle.put_side.proofs.Choices.{pick_less}

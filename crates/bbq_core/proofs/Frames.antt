@@ -9,7 +9,7 @@ use Rattle.rail.specs.declared.entry.Placed.{Placed}
 use Rattle.rail.specs.Items.{IsRising, places}
 use Rattle.machine.proofs.Lists.{get_set}
 use Rattle.put_side.specs.Cursors.{Front, consumed_word, place, reserved_word}
-use Rattle.put_side.specs.Counts.{times}
+use Rattle.put_side.specs.Counts.{takes, times}
 use Rattle.put_side.specs.Places.{IsCurrent}
 use Rattle.put_side.specs.PutSide.{PutSide}
 use Rattle.put_side.proofs.Sums.{sum_same, upto_same}
@@ -24,7 +24,7 @@ use Rattle.put_side.proofs.Raises.{raised_to}
 use Rattle.bbq_core.specs.Types.{View}
 use Rattle.bbq_core.specs.Stage.{stage_of}
 use Rattle.bbq_core.specs.Cursors.{TakeCursors, TakeWords, take_cursors}
-use Rattle.bbq_core.specs.Counts.{TakeCounts, fetch_count, fetched, fetches, reading_in, takes}
+use Rattle.bbq_core.specs.Counts.{TakeCounts, fetch_count, fetched, fetches, reading_in}
 use Rattle.bbq_core.specs.Sound.{IsPassed, IsReserved, IsSoundAt, Knows, Scene, TakeFits, TakeKnows, TakeTurn, scene}
 
 -- a later scene: cursors only grow, and so does what is made

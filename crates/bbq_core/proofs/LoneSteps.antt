@@ -8,9 +8,8 @@ use Rattle.cursor_word.specs.Cursor.{most_block, offset_span}
 use Rattle.rail.specs.declared.entry.Placed.{Placed}
 use Rattle.machine.specs.Invariant.{made_count, made_total}
 use Rattle.machine.specs.Steps.{finds, view_after, words_after}
-use Rattle.machine.proofs.Lists.{get_set}
 use Rattle.put_side.specs.Cursors.{Front, reserved_word}
-use Rattle.put_side.specs.Counts.{one_below}
+use Rattle.put_side.specs.Counts.{one_below, taken_count, taken_total, takes}
 use Rattle.put_side.specs.Stages.{PutStage}
 use Rattle.bbq_core.specs.declared.phase.Phase.{Phase}
 use Rattle.bbq_core.specs.declared.phase.Phase.TheVariants.{Take}
@@ -19,7 +18,7 @@ use Rattle.bbq_core.specs.Types.{After, View}
 use Rattle.bbq_core.specs.PutSteps.{after}
 use Rattle.bbq_core.specs.Table.{table}
 use Rattle.bbq_core.specs.Stage.{stage}
-use Rattle.bbq_core.specs.Counts.{reading, taken_count, taken_total, takes}
+use Rattle.bbq_core.specs.Counts.{reading}
 use Rattle.bbq_core.specs.Sound.{IsManned, IsSoundAt, opens_reserved, raises_consumer}
 use Rattle.bbq_core.specs.Alone.{GoesOnAlone, IsAlone, IsStill, LoneKnows}
 use Rattle.put_side.proofs.TakeWords.{seen_by}
@@ -27,7 +26,7 @@ use Rattle.bbq_core.proofs.Lone.{consumer_is, reserved_is, reserved_number, take
 use Rattle.put_side.specs.Alone.{OthersRest, PutAlone}
 use Rattle.put_side.specs.PutTable.{stage_in}
 use Rattle.put_side.proofs.AlonePuts.{IsPutHere}
-use Rattle.put_side.proofs.Lone.{IsOnly, only_one, others_still, total_grows}
+use Rattle.put_side.proofs.Lone.{IsOnly, all_still, only_one, others_still, total_grows}
 use Rattle.bbq_core.proofs.Steps.{IsAfter, step_at}
 
 -- a seat alone, before its step
@@ -86,7 +85,7 @@ module _ {g : Grid} {n t : ℕ} {front back : Front} {ws : List ℕ} {vs : List 
     back = k.back';
     sound = k.sound;
     manned = k.manned;
-    rest = λ j w e. ⊎_elim (λ q. let z = ap (λ (x : View). x.phase) q.1 in sym z ∙ rest) (λ q. h.others j w q.0 q.1) (get_set vs id j v' w e);
+    rest = all_still vs id v' h.others rest;
     made = total_grows made_count vs id m n v v' h.at made h.made;
     taken = total_grows taken_count vs id d t v v' h.at taken h.taken;
   }

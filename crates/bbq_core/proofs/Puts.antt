@@ -11,7 +11,7 @@ use Rattle.rail.specs.declared.entry.Placed.{Placed}
 use Rattle.rail.specs.Items.{places}
 use Rattle.machine.specs.Steps.{finds, phase_after, view_after, words_after}
 use Rattle.put_side.specs.Cursors.{Front, consumed_word, place, put_cursors}
-use Rattle.put_side.specs.Counts.{makes}
+use Rattle.put_side.specs.Counts.{makes, takes}
 use Rattle.put_side.specs.declared.put_phase.PutPhase.{PutPhase}
 use Rattle.put_side.specs.declared.put_phase.PutPhase.TheVariants.{OpenM}
 use Rattle.put_side.specs.PutSteps.{older_full}
@@ -32,7 +32,7 @@ use Rattle.bbq_core.specs.PutSteps.{after}
 use Rattle.bbq_core.specs.Table.{table}
 use Rattle.bbq_core.specs.Stage.{stage, stage_of}
 use Rattle.bbq_core.specs.Cursors.{TakeCursors, TakeWords, take_cursors}
-use Rattle.bbq_core.specs.Counts.{reading, takes}
+use Rattle.bbq_core.specs.Counts.{reading}
 use Rattle.bbq_core.specs.Sound.{IsSoundAt, Knows, Scene, scene}
 use Rattle.bbq_core.proofs.PutSteps.{puts}
 use Rattle.bbq_core.proofs.Frames.{IsLater, quiet, take_cursors_are}

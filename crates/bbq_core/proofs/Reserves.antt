@@ -18,7 +18,7 @@ use Rattle.machine.specs.declared.op.After.TheVariants.{Next, Done}
 use Rattle.machine.specs.Steps.{view_after, words_after}
 use Rattle.machine.proofs.Lists.{one_le_sum, sum_set}
 use Rattle.put_side.specs.Cursors.{Front, consumed_word, place, reserved_word}
-use Rattle.put_side.specs.Counts.{one_at, times}
+use Rattle.put_side.specs.Counts.{one_at, takes, times}
 use Rattle.put_side.proofs.Sums.{none_from, rising_push, sum_same, times_push, upto_same}
 use Rattle.put_side.proofs.Facts.{physical}
 use Rattle.put_side.proofs.Items.{made_there}
@@ -30,7 +30,7 @@ use Rattle.bbq_core.specs.Stage.{stage, stage_of}
 use Rattle.bbq_core.specs.Types.{After, View}
 use Rattle.bbq_core.specs.Table.{table}
 use Rattle.bbq_core.specs.Cursors.{TakeCursors, TakeWords, take_cursors}
-use Rattle.bbq_core.specs.Counts.{fetch_count, fetched, fetches, reading, takes}
+use Rattle.bbq_core.specs.Counts.{fetch_count, fetched, fetches, reading}
 use Rattle.bbq_core.specs.Sound.{IsSoundAt}
 use Rattle.bbq_core.proofs.Frames.{after_step, fits_later, take_cursors_are, raised_later}
 use Rattle.put_side.proofs.Choices.{pick_equal}

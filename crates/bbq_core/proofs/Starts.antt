@@ -13,7 +13,7 @@ use Rattle.machine.specs.declared.event.Start.{Start}
 use Rattle.machine.specs.declared.event.Start.TheVariants as start
 use Rattle.machine.proofs.Lists.{get_replicate, set_again}
 use Rattle.put_side.specs.Cursors.{Front, consumed_word, place}
-use Rattle.put_side.specs.Counts.{one_below}
+use Rattle.put_side.specs.Counts.{one_below, takes}
 use Rattle.put_side.specs.PutSide.{PutSide}
 use Rattle.put_side.specs.Stages.{Away}
 use Rattle.put_side.specs.PutTable.{stage_in}
@@ -28,7 +28,7 @@ use Rattle.bbq_core.specs.Types.{View}
 use Rattle.bbq_core.specs.Table.{MayBegin, table}
 use Rattle.bbq_core.specs.Stage.{stage, stage_of}
 use Rattle.bbq_core.specs.Cursors.{TakeWords, take_cursors}
-use Rattle.bbq_core.specs.Counts.{TakeCounts, fetch_count, fetches, reading, reading_in, takes}
+use Rattle.bbq_core.specs.Counts.{TakeCounts, fetch_count, fetches, reading, reading_in}
 use Rattle.bbq_core.specs.Sound.{IsManned, IsSound, IsSoundAt, Knows, TakeFits, opens_reserved, raises_consumer, scene}
 use Rattle.bbq_core.proofs.Frames.{quiet}
 use Rattle.bbq_core.proofs.Attends.{both_parts, stays_take, take_part}

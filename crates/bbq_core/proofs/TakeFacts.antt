@@ -14,7 +14,7 @@ use Rattle.rail.specs.declared.entry.Placed.{Placed}
 use Rattle.rail.specs.Items.{places}
 use Rattle.machine.proofs.Lists.{one_le_sum}
 use Rattle.put_side.specs.Cursors.{Front, consumed_word, place}
-use Rattle.put_side.specs.Counts.{makes, one_at, sum_below, times}
+use Rattle.put_side.specs.Counts.{makes, one_at, sum_below, takes, times}
 use Rattle.put_side.specs.Places.{IsCurrent}
 use Rattle.put_side.proofs.Sums.{none_from, one_in, one_to, some_counts, sum_gap, times-cons, times_push, upto_misses}
 use Rattle.put_side.proofs.Facts.{IsPhysical, place_next, repacked}
@@ -27,7 +27,7 @@ use Rattle.put_side.proofs.Moments.{made_within}
 use Rattle.bbq_core.specs.Types.{View}
 use Rattle.bbq_core.specs.Stage.{stage}
 use Rattle.bbq_core.specs.Cursors.{IsHalfOpen, TakeCursors, TakeWords}
-use Rattle.bbq_core.specs.Counts.{fetches, reading, takes}
+use Rattle.bbq_core.specs.Counts.{fetches, reading}
 use Rattle.bbq_core.specs.Sound.{IsSoundAt, Knows, Scene, scene}
 
 -- what stands at the reserved cursor of a physical block

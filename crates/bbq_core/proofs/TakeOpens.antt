@@ -15,7 +15,7 @@ use Rattle.rail.specs.Items.{IsRising, places}
 use Rattle.machine.specs.declared.op.After.TheVariants.{Next}
 use Rattle.machine.specs.Steps.{view_after}
 use Rattle.put_side.specs.Cursors.{Front, consumed_word, place, reserved_word}
-use Rattle.put_side.specs.Counts.{sum_below, times}
+use Rattle.put_side.specs.Counts.{sum_below, takes, times}
 use Rattle.put_side.specs.Places.{IsCurrent}
 use Rattle.put_side.proofs.Sums.{none_from, sum_same, upto_none, upto_same}
 use Rattle.put_side.proofs.Facts.{committed_below, physical, place_next}
@@ -29,7 +29,7 @@ use Rattle.bbq_core.specs.Stage.{stage, stage_of}
 use Rattle.bbq_core.specs.Types.{View}
 use Rattle.bbq_core.specs.Table.{table}
 use Rattle.bbq_core.specs.Cursors.{TakeCursors, TakeWords, take_cursors}
-use Rattle.bbq_core.specs.Counts.{fetch_count, fetched, fetches, reading, reading_in, takes}
+use Rattle.bbq_core.specs.Counts.{fetch_count, fetched, fetches, reading, reading_in}
 use Rattle.bbq_core.specs.Sound.{IsSoundAt, Knows, Scene, TakeFits, TakeKnows, scene}
 use Rattle.bbq_core.proofs.Frames.{after_step, fits_later, take_cursors_are, raised_later}
 use Rattle.bbq_core.proofs.Loads.{go_on, loads}

@@ -48,7 +48,8 @@ pub once_dense : (total : ℕ → ℕ) (count : ℕ) → ((p : ℕ) → total p 
 once_dense total count once p q l h =
     ⊎_elim (λ less. let e = once q in let o = one_in q count (omega arith) in omega arith) (λ more. absurd (let e = once p in let z = none_from p count more in omega arith)) (cases_lt p count)
 
-takes_more : {P : Type 0} (taken : List Placed) (read : List ℕ) (p : ℕ) (b : After P) → times p (places taken) ≤ times p (places (taken_after taken read b))
+-- what follows a step takes nothing back
+pub takes_more : {P : Type 0} (taken : List Placed) (read : List ℕ) (p : ℕ) (b : After P) → times p (places taken) ≤ times p (places (taken_after taken read b))
 takes_more taken read p (Done (answer.Take (take.Ok place))) = let e = ap (times p) (places_append taken (placed place read ∷ [])) in let l = times_front p (places taken) (place ∷ []) in omega arith
 takes_more taken read p b = omega arith
 

@@ -11,9 +11,10 @@ use Rattle.machine.specs.Steps.{IsWide, begun, finds, phase_after, resting, star
 use Rattle.bbq_core.specs.declared.phase.Phase.{Phase}
 use Rattle.bbq_core.specs.Types.{After, View}
 use Rattle.bbq_core.specs.PutSteps.{after}
-use Rattle.bbq_core.specs.Counts.{taken_total}
+use Rattle.put_side.specs.Counts.{taken_total}
 use Rattle.bbq_core.specs.Sound.{IsSound}
-use Rattle.bbq_core.specs.Alone.{GoesOnAlone, IsAlone, IsStill, gives_out}
+use Rattle.bbq_core.specs.Alone.{GoesOnAlone, IsAlone, IsStill}
+use Rattle.put_side.specs.AsOne.{gives_out}
 use Rattle.bbq_core.specs.Table.{table}
 use Rattle.bbq_core.proofs.AloneCalls.{goes_alone, put_alone, take_alone}
 use Rattle.bbq_core.proofs.AtRest.{start_still}

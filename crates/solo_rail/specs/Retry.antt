@@ -3,7 +3,8 @@ use Rattle.std.specs.Prelude.{ℕ, List, [], ◌∷◌, Option, Some, None, leng
 use Rattle.cursor_word.specs.Shape.{Grid}
 use Rattle.bbq_core.specs.declared.phase.Phase.{Phase}
 use Rattle.bbq_core.specs.Types.{View}
-use Rattle.bbq_core.specs.Alone.{AnswersAlone, IsAlone, IsStill}
+use Rattle.bbq_core.specs.Alone.{IsAlone, IsStill}
+use Rattle.put_side.specs.AsOne.{AnswersAlone}
 use Rattle.solo_rail.specs.Lone.{LoneFacts}
 
 -- at rest, or alone in a call
