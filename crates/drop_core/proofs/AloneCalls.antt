@@ -1,6 +1,6 @@
 -- A call that is done alone, from its beginning to its answer; and one that no other seat's call overlaps is answered so.
 use Rattle.std.specs.Prelude.{slice_index, if◌then◌else◌, Some, None, slice_get, slice_set}
-use Rattle.std.proofs.Common.{◌≡◌, ℕ, ◌+◌, ◌-◌, ◌*◌, ◌%◌, List, refl, ap, ◌∙◌, arith, length, sym, inl, ⊎_elim, ◌≤◌, suc, ◌<◌, subst}
+use Rattle.std.proofs.Common.{◌≡◌, ℕ, ◌+◌, ◌-◌, ◌*◌, ◌%◌, List, refl, ap, ◌∙◌, arith, length, sym, inl, ◌≤◌, suc, ◌<◌, subst}
 use Rattle.std.proofs.lemmas.List.{length-append}
 use Rattle.cursor_word.specs.Shape.{Grid, IsWithinLimits}
 use Rattle.cursor_word.specs.Cursor.{unpacked, place_span, most_puts}
@@ -12,15 +12,15 @@ use Rattle.rail.specs.Items.{places}
 use Rattle.machine.specs.declared.op.After.TheVariants.{Next, Done}
 use Rattle.machine.specs.Steps.{words_after, begun, finds, made_after, phase_after, view_after, Suits}
 use Rattle.machine.specs.Invariant.{made_count, made_total}
-use Rattle.machine.proofs.Lists.{get_set, get_set_other}
+use Rattle.machine.proofs.Lists.{get_set_other}
 use Rattle.put_side.specs.Cursors.{committed_word, Front}
 use Rattle.put_side.specs.PutSteps.{older_full}
 use Rattle.put_side.specs.declared.put_phase.PutPhase.TheVariants.{OpenM}
-use Rattle.put_side.specs.Counts.{times}
+use Rattle.put_side.specs.Counts.{takes, times}
 use Rattle.put_side.proofs.Facts.{physical}
 use Rattle.put_side.proofs.Sums.{by_test_le, sum_same}
 use Rattle.put_side.proofs.AlonePuts.{head_of, made_of, open_of, put_goes_on}
-use Rattle.put_side.proofs.Lone.{others_still, total_grows}
+use Rattle.put_side.proofs.Lone.{all_still, others_still, total_grows}
 use Rattle.drop_core.specs.declared.phase.DropPhase.{DropPhase}
 use Rattle.drop_core.specs.declared.phase.DropPhase.TheVariants.{Put, SeeM, Take}
 use Rattle.drop_core.specs.Types.{View, After, MachineState}
@@ -29,15 +29,14 @@ use Rattle.drop_core.specs.Stage.{stage}
 use Rattle.drop_core.specs.PutSteps.{after, first_put}
 use Rattle.drop_core.specs.TakeSteps.{first_take}
 use Rattle.drop_core.specs.Words.{cursors}
-use Rattle.drop_core.specs.Counts.{takes}
 use Rattle.drop_core.specs.Sound.{IsSound}
-use Rattle.drop_core.specs.Alone.{GoesOnAlone, IsAlone, IsNext, IsStill, KnowsAlone, accepts, AnswersAlone}
+use Rattle.drop_core.specs.Alone.{GoesOnAlone, IsAlone, IsNext, IsStill, KnowsAlone, AnswersAlone}
 use Rattle.drop_core.proofs.Lone.{IsHere, Leads, StepLeads, full_is, loaded, put_here}
 use Rattle.drop_core.proofs.AloneTakes.{take_leads}
 use Rattle.drop_core.proofs.Keeping.{keeps}
 use Rattle.drop_core.proofs.History.{next_by, next_step, moment_next}
 use Rattle.std.specs.List.{AllByRecursion}
-use Rattle.rail.specs.Sequential.{drop_next}
+use Rattle.rail.specs.Sequential.{drop_next, drop_put, drop_take}
 use Rattle.rail.specs.declared.answer.Take as taking
 use Rattle.rail.specs.declared.answer.Why.{Why}
 use Rattle.machine.specs.declared.event.Event.{Event}
@@ -48,6 +47,8 @@ use Rattle.machine.proofs.Calls.{rest_at, unmixed}
 use Rattle.machine.proofs.Lone.{overlaps}
 use Rattle.drop_core.specs.Rest.{AnsweredAsOne, AnswersAsOne, next_place}
 use Rattle.drop_core.proofs.CallTable.{call_table, goes_on}
+use Rattle.put_side.specs.AsOne.{accepts}
+use Rattle.put_side.proofs.AsOne.{kind_by, put_by, take_by}
 use Rattle.put_side.proofs.CallKinds.{IsOfCall}
 use Rattle.put_side.proofs.Choices.{by_equal}
 use Rattle.drop_core.proofs.Reached.{moment_sound}
@@ -122,7 +123,7 @@ module _ (g : Grid) (n next : ℕ) (ws : List ℕ) (vs : List View) (id : ℕ) (
     leads,
     record {
       sound = sound';
-      rest = λ j u h. ⊎_elim (λ q. sym (ap (λ (x : View). x.phase) q.1) ∙ ap phase_after is) (λ q. alone.others j u q.0 q.1) (get_set vs id j v' u h);
+      rest = all_still vs id v' alone.others (ap phase_after is);
       made = total_grows made_count vs id (accepts a) n v v' at (ap (λ (b : After). length (made_after v.made v.entry b)) is ∙ accepts_more v.made v.entry a) alone.made;
       answered = answered;
     },
@@ -157,11 +158,7 @@ take_alone g n next ws vs id v limits s at =
     begins g n next ws vs id v (begun table g v None start.Take) limits s at first_take refl refl (keeps.begins g ws vs id v start.Take limits s.sound at (s.rest id v at) tt tt) (inl refl)
 
 answers_kind : (g : Grid) (n next : ℕ) (begins : Start) (a : Answer) → IsOfCall table begins (Done a) → AnswersAlone g n next a → AnswersAsOne g n next begins (Some a)
-answers_kind g n next (start.Put entry) (answer.Put p) kind h = h
-answers_kind g n next (start.Put entry) (answer.Take q) kind h = cc
-answers_kind g n next start.Take (answer.Put p) kind h = cc
-answers_kind g n next start.Take (answer.Take q) kind h = h
-answers_kind g n next start.Go a kind h = absurd kind
+answers_kind g n next begins a kind h = kind_by (λ p. p ≡ drop_put n) (λ q. q ≡ drop_take g n next) table begins a kind h
 
 module _ (g : Grid) (n next seat : ℕ) (begins : Start) where
   abbrev Alone : List ℕ → List View → DropPhase → Type 0
@@ -202,14 +199,12 @@ module _ (g : Grid) (events : List Event) (limits : IsWithinLimits g) (suits : A
       (λ n begins call alone is. never _ _ begins (subst (AnswersAsOne g (made_total (moment table g events n).views) (next_place g events n) begins) is (unmixed_answers seat n (suc i) begins call alone)))
 
   put_busy_never : (reason : Why) (n next : ℕ) (begins : Start) → AnswersAsOne g n next begins (Some (answer.Put (put.Busy reason))) → ⊥
-  put_busy_never reason n next (start.Put entry) h = cc
-  put_busy_never reason n next start.Take h = h
-  put_busy_never reason n next start.Go h = h
+  put_busy_never reason n next begins h = let e : put.Busy reason ≡ drop_put n = put_by (λ p. p ≡ drop_put n) (λ q. q ≡ drop_take g n next) begins (put.Busy reason) h in cc
 
   take_never : (a : taking.Take) (n next : ℕ) (begins : Start) → (a ≡ take.Empty n → ⊥) → (a ≡ take.Ok (drop_next g n next) → ⊥) → AnswersAsOne g n next begins (Some (answer.Take a)) → ⊥
-  take_never a n next (start.Put entry) no_empty no_ok h = h
-  take_never a n next start.Take no_empty no_ok h = by_equal (drop_next g n next) n (λ b. a ≡ (if b then take.Empty n else take.Ok (drop_next g n next)) → ⊥) (λ e. no_empty) (λ e. no_ok) h
-  take_never a n next start.Go no_empty no_ok h = h
+  take_never a n next begins no_empty no_ok h =
+      by_equal (drop_next g n next) n (λ b. a ≡ (if b then take.Empty n else take.Ok (drop_next g n next)) → ⊥) (λ e. no_empty) (λ e. no_ok)
+      (take_by (λ p. p ≡ drop_put n) (λ q. q ≡ drop_take g n next) begins a h)
 
   -- a Busy answer, and an Overrun, show another seat in mid-call at one of the call's moments
   pub put_overlapped : (i seat : ℕ) (reason : Why) → EndsAt table g events i seat (answer.Put (put.Busy reason)) → IsOverlapped table g events seat i

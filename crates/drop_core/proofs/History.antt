@@ -25,7 +25,7 @@ use Rattle.machine.specs.Steps.{IsWide, Suits, begun, finds, moves, resting, sta
 use Rattle.machine.proofs.Lists.{all_at, get_set_same, set_again, set_twice, sum_set}
 use Rattle.machine.proofs.Runs.{moment_total, run_next, stepped}
 use Rattle.machine.proofs.Turns.{begun_made, total_same}
-use Rattle.put_side.specs.Counts.{one_at, times}
+use Rattle.put_side.specs.Counts.{one_at, takes, times}
 use Rattle.put_side.specs.PutTable.{IsShared}
 use Rattle.put_side.specs.Cursors.{put_cursors, reserved_word}
 use Rattle.put_side.specs.PutTable.{stage_of}
@@ -42,7 +42,6 @@ use Rattle.drop_core.specs.PutSteps.{after}
 use Rattle.drop_core.specs.Steps.{table}
 use Rattle.drop_core.specs.Stage.{stage}
 use Rattle.drop_core.specs.Words.{cursors}
-use Rattle.drop_core.specs.Counts.{takes}
 use Rattle.drop_core.specs.Sound.{IsSound, IsSoundAt}
 use Rattle.drop_core.specs.Rest.{next_place, place_answered, places_answered}
 use Rattle.drop_core.specs.Alone.{IsBehind, IsNext, next_after}

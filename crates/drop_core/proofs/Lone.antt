@@ -14,7 +14,7 @@ use Rattle.machine.specs.Invariant.{made_total}
 use Rattle.machine.specs.Steps.{finds, words_after}
 use Rattle.machine.specs.declared.op.After.TheVariants.{Next, Done}
 use Rattle.put_side.specs.Cursors.{Front, allocated_word, committed_word, place, reserved_word}
-use Rattle.put_side.specs.Counts.{makes, one_at, one_below, times}
+use Rattle.put_side.specs.Counts.{makes, one_at, one_below, takes, times}
 use Rattle.put_side.specs.Alone.{OthersRest, PutAlone}
 use Rattle.put_side.specs.PutTable.{stage_in}
 use Rattle.put_side.proofs.Facts.{allocated_to, place_next}
@@ -26,7 +26,7 @@ use Rattle.drop_core.specs.declared.phase.DropPhase.{DropPhase}
 use Rattle.drop_core.specs.Types.{View, After}
 use Rattle.drop_core.specs.Stage.{stage}
 use Rattle.drop_core.specs.Words.{IsGone, cursors}
-use Rattle.drop_core.specs.Counts.{fetches, raises_consumer, reading, takes, reading_in}
+use Rattle.drop_core.specs.Counts.{fetches, raises_consumer, reading, reading_in}
 use Rattle.drop_core.specs.Sound.{IsSoundAt}
 use Rattle.drop_core.specs.Alone.{IsNext, AnswersAlone, KnowsAlone}
 use Rattle.drop_core.specs.declared.phase.DropPhase.TheVariants.{Put, SeeM, Take}

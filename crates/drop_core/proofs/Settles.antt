@@ -33,7 +33,7 @@ use Rattle.put_side.specs.Gathered.{all_made, all_taken}
 use Rattle.put_side.proofs.Orders.{in_order, order_length, stands_at, stands_from}
 use Rattle.put_side.proofs.Filters.{filter_like, any_there, filter_same, filter_skips, none_there}
 use Rattle.put_side.proofs.Lows.{low_at, of_place}
-use Rattle.put_side.proofs.Gathers.{StandsIn, distinct, has_in, stands_in, times_all}
+use Rattle.put_side.proofs.Gathers.{StandsIn, distinct, stands_in, taken_stands, times_all}
 use Rattle.put_side.proofs.Rests.{NonePuts, claims_all, claims_number, last_entered, made_at}
 use Rattle.put_side.proofs.Sums.{sum_alike}
 use Rattle.rail.proofs.Newest.{keeps_newest}
@@ -89,12 +89,6 @@ module _ (g : Grid) (f : Front) (ws : List ℕ) (vs : List View) (limits : IsWit
   pub takes_all : (p : ℕ) → sum_by (fetches g p) vs ≡ times p (places (all_taken vs))
   takes_all p = sum_alike (fetches g p) (λ (v : View). times p (places v.taken)) vs (λ j u at. ap (times p) (ap (λ (ph : Option DropPhase). places u.taken ++ reading g ph) (rest j u at) ∙ append-nil (places u.taken))) ∙ sym (times_all (λ (v : View). v.taken) p vs)
 
-  taken_stands : (x : Placed) → Contains (all_taken vs) x → Contains (all_made vs) x
-  taken_stands x c =
-      let k = stands_in (λ (v : View). v.taken) vs x c in
-      let m = (s.each k.seat k.view k.at).items k.number x k.there in
-      has_in (λ (v : View). v.made) vs m.seat m.number m.view x m.at m.there
-
   pub settled_at : IsSettled g (record { words = ws; views = vs })
   settled_at =
       let a : ℕ = f.next in
@@ -117,7 +111,7 @@ module _ (g : Grid) (f : Front) (ws : List ℕ) (vs : List View) (limits : IsWit
       let k = kept_words x.0 (stands_in (λ (v : View). v.made) vs x.0 x.1) (let e = x.2 in omega arith) (let e = x.2 in omega arith) in
       ap (entry_at g ws) (sym x.2) ∙ k ∙ ap (λ (z : Placed). z.words) (sym x.3)) in
       let outcome : DropOutcome g made.list taken (left_in g ws taken (made_total vs)) = record {
-        taken_accepted = λ i e h. let c : Contains taken (get_or taken i e) = (i, h, refl_at taken i e h) in let m = stands_at (all_made vs) a made (get_or taken i e) d (taken_stands (get_or taken i e) c) in ((get_or taken i e).place, (let z = n in omega (arith, m.0)), swap_default made.list (get_or taken i e).place d (get_or taken i e) (let z = n in omega (arith, m.0)) ∙ m.1);
+        taken_accepted = λ i e h. let c : Contains taken (get_or taken i e) = (i, h, refl_at taken i e h) in let m = stands_at (all_made vs) a made (get_or taken i e) d ((taken_stands vs (λ j u at. (s.each j u at).items)) (get_or taken i e) c) in ((get_or taken i e).place, (let z = n in omega (arith, m.0)), swap_default made.list (get_or taken i e).place d (get_or taken i e) (let z = n in omega (arith, m.0)) ∙ m.1);
         taken_once = distinct (places taken) (λ p. let e = takes_all p in let o = s.counts.once p in omega arith);
         rest_left = ap (left_in g ws taken) (sym total) ∙ like ∙ ap (λ (l : List Placed). filter (is_left g a taken) l) list_is ∙ ap (λ (k : ℕ). filter (is_left g k taken) made.list) (sym n);
       } in

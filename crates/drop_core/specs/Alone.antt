@@ -4,8 +4,6 @@ use Rattle.std.specs.List.{sum_by}
 use Rattle.cursor_word.specs.Shape.{Grid}
 use Rattle.cursor_word.specs.Cursor.{offset_span, packed, place_at}
 use Rattle.rail.specs.declared.answer.Answer.{Answer}
-use Rattle.rail.specs.declared.answer.Answer.TheVariants as answer
-use Rattle.rail.specs.declared.answer.Put.TheVariants as put
 use Rattle.rail.specs.Sequential.{beyond, drop_next, drop_put, drop_take}
 use Rattle.machine.specs.declared.op.After.TheVariants.{Next, Done}
 use Rattle.machine.specs.Invariant.{made_total}
@@ -19,7 +17,8 @@ use Rattle.drop_core.specs.declared.take_phase.DropTake.{DropTake}
 use Rattle.drop_core.specs.declared.take_phase.DropTake.TheVariants.{HeadC, SeeRes, SeeCom, SeeAll, Reserve, Read, Verify, NextCom, Jump, OpenR, RaiseC}
 use Rattle.drop_core.specs.Types.{After, View}
 use Rattle.drop_core.specs.Words.{Cursors, IsGone, cursors}
-use Rattle.drop_core.specs.Counts.{takes}
+use Rattle.put_side.specs.Counts.{takes}
+use Rattle.put_side.specs.AsOne.{AnswersBy, accepts}
 use Rattle.drop_core.specs.Sound.{IsSound}
 use Rattle.drop_core.specs.Rest.{place_answered}
 
@@ -104,13 +103,8 @@ pub record IsStill (shape : Grid) (accepted next : ℕ) (words : List ℕ)
 
 -- what one thread is answered
 abbrev pub AnswersAlone : Grid → ℕ → ℕ → Answer → Type 0
-AnswersAlone shape accepted next (answer.Put p) = p ≡ drop_put accepted
-AnswersAlone shape accepted next (answer.Take q) = q ≡ drop_take shape accepted next
-
--- how many entries an answer accepts
-abbrev pub accepts : Answer → ℕ
-accepts (answer.Put (put.Ok place)) = 1
-accepts a = 0
+AnswersAlone shape accepted next a =
+    AnswersBy (λ p. p ≡ drop_put accepted) (λ q. q ≡ drop_take shape accepted next) a
 
 -- after a step of a seat alone: it goes on alone, or all seats are at rest and the answer is what
 -- one thread is answered

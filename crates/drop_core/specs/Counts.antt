@@ -31,10 +31,6 @@ fetched shape view = places view.taken ++ reading shape view.phase
 abbrev pub fetches : Grid → ℕ → View → ℕ
 fetches shape p view = times p (fetched shape view)
 
--- how often a seat has taken a place
-abbrev pub takes : ℕ → View → ℕ
-takes p view = times p (places view.taken)
-
 -- 1 for a take that is about to raise the consumer head to a block, else 0
 abbrev pub raises_consumer : ℕ → Option DropPhase → ℕ
 raises_consumer block (Some (Take (RaiseC from to))) = one_at to block

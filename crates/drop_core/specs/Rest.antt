@@ -1,5 +1,5 @@
 -- Calls that are done alone, and what they are answered.
-use Rattle.std.specs.Prelude.{◌≡◌, ℕ, List, [], ◌∷◌, Option, Some, flat_map}
+use Rattle.std.specs.Prelude.{◌≡◌, ℕ, List, [], ◌∷◌, Option, flat_map}
 use Rattle.cursor_word.specs.Shape.{Grid}
 use Rattle.rail.specs.declared.answer.Answer.{Answer}
 use Rattle.rail.specs.declared.answer.Answer.TheVariants as answer
@@ -7,9 +7,9 @@ use Rattle.rail.specs.declared.answer.Take.TheVariants as take
 use Rattle.rail.specs.Sequential.{beyond, drop_put, drop_take}
 use Rattle.machine.specs.declared.event.Event.{Event}
 use Rattle.machine.specs.declared.event.Start.{Start}
-use Rattle.machine.specs.declared.event.Start.TheVariants as start
 use Rattle.machine.specs.Invariant.{made_total}
 use Rattle.machine.specs.Moments.{Ended, answer_of, ended, moment}
+use Rattle.put_side.specs.AsOne.{CallAnswersBy}
 use Rattle.drop_core.specs.Steps.{table}
 
 -- the place that a take answered Ok or Overrun
@@ -28,10 +28,8 @@ next_place shape events n = beyond (places_answered (ended table shape events n)
 -- A call that is begun so is answered as one thread is, where so many entries are accepted, and the
 -- takes so far were answered places below `next`.
 abbrev pub AnswersAsOne : Grid → ℕ → ℕ → Start → Option Answer → Type 0
-AnswersAsOne shape accepted next (start.Put entry) (Some (answer.Put p)) = p ≡ drop_put accepted
-AnswersAsOne shape accepted next start.Take (Some (answer.Take q)) =
-    q ≡ drop_take shape accepted next
-AnswersAsOne shape accepted next begun a = ⊥
+AnswersAsOne shape accepted next begun a =
+    CallAnswersBy (λ p. p ≡ drop_put accepted) (λ q. q ≡ drop_take shape accepted next) begun a
 
 -- the call of a seat from moment n to moment m is answered as one thread is, by what was made and
 -- answered before moment n

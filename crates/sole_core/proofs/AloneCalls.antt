@@ -1,15 +1,15 @@
 -- A call that is done alone, from its beginning to its answer.
 use Rattle.std.proofs.Common.{◌≡◌, ℕ, ◌<◌, ◌≤◌, List, length, refl, sym, ◌∙◌, inl, arith}
 use Rattle.std.specs.Prelude.{Some, None, slice_get, slice_set}
-use Rattle.std.specs.List.{sum_by}
 use Rattle.cursor_word.specs.Shape.{Grid, IsWithinLimits}
 use Rattle.cursor_word.specs.Cursor.{most_block, place_span}
 use Rattle.machine.specs.Invariant.{made_count}
 use Rattle.machine.specs.Steps.{begun}
 use Rattle.machine.specs.declared.event.Start.TheVariants as start
-use Rattle.machine.proofs.Lists.{get_set_other, sum_set}
+use Rattle.machine.proofs.Lists.{get_set_other}
 use Rattle.put_side.specs.Cursors.{Front, put_cursors}
 use Rattle.put_side.proofs.Few.{last_small}
+use Rattle.put_side.proofs.Sums.{sum_same}
 use Rattle.sole_core.specs.declared.phase.SolePhase.{SolePhase}
 use Rattle.sole_core.specs.declared.phase.SolePhase.TheVariants.{Put, SeeX, Take}
 use Rattle.sole_core.specs.Types.{View}
@@ -17,7 +17,7 @@ use Rattle.sole_core.specs.PutSteps.{first_put}
 use Rattle.sole_core.specs.TakeSteps.{first_take}
 use Rattle.sole_core.specs.Table.{consumer, table}
 use Rattle.sole_core.specs.Stage.{stage_of}
-use Rattle.sole_core.specs.Counts.{taken_count}
+use Rattle.put_side.specs.Counts.{taken_count}
 use Rattle.sole_core.specs.Sound.{IsSoundAt}
 use Rattle.sole_core.specs.Alone.{IsAlone, IsStill, LoneKnows}
 use Rattle.sole_core.proofs.Alone.{put_goes, see_goes}
@@ -38,9 +38,6 @@ goes_alone g n t ws vs id v p limits s room at e =
     goes g n t s.front s.next ws vs id v p
     record { limits = limits; sound = s.sound; small = few; room = omega (arith, s.made); manned = s.manned; at = at; phase = e; others = s.others; made = s.made; taken = s.taken; knows = s.knows }
 
-pub begun_total : (f : View → ℕ) (vs : List View) (id n : ℕ) (v v' : View) → slice_get vs id ≡ Some v → f v' ≡ f v → sum_by f vs ≡ n → sum_by f (slice_set vs id v') ≡ n
-begun_total f vs id n v v' at e total = let z = sum_set f vs id v v' at in omega arith
-
 module _ (g : Grid) (limits : IsWithinLimits g) (n t : ℕ) (ws : List ℕ) (vs : List View) (id : ℕ) (v : View) (s : IsStill g n t ws vs) (at : slice_get vs id ≡ Some v) where
   begins : (v' : View) (p : SolePhase) → made_count v' ≡ made_count v → taken_count v' ≡ taken_count v → IsSoundAt g s.front s.next ws (slice_set vs id v') → LoneKnows g n ws p → IsAlone g n t ws (slice_set vs id v') id p
   begins v' p made taken sound knows = record {
@@ -49,8 +46,8 @@ module _ (g : Grid) (limits : IsWithinLimits g) (n t : ℕ) (ws : List ℕ) (vs 
     sound = sound;
     manned = begins_manned g s.front s.next ws vs id v at (s.rest id v at) v' s.manned;
     others = λ j u d e. s.rest j u (sym (get_set_other vs id j v' d) ∙ e);
-    made = begun_total made_count vs id n v v' at made s.made;
-    taken = begun_total taken_count vs id t v v' at taken s.taken;
+    made = sum_same made_count vs id v v' at made ∙ s.made;
+    taken = sum_same taken_count vs id v v' at taken ∙ s.taken;
     knows = knows;
   }
 

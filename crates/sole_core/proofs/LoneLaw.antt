@@ -1,6 +1,6 @@
 -- A call that is done alone answers as one thread is answered.
 use Rattle.std.proofs.Common.{◌≡◌, ◌≢◌, ℕ, suc, ◌+◌, ◌*◌, ◌/◌, ◌%◌, ◌<◌, ◌≤◌, ◌⊎◌, List, [], length, refl, sym, ap, ◌∙◌, subst, inl, inr, ⊎_elim, arith}
-use Rattle.std.specs.Prelude.{Option, Some, None, slice_get, slice_index, slice_set, if◌then◌else◌}
+use Rattle.std.specs.Prelude.{Option, Some, None, slice_get, slice_index, slice_set}
 use Rattle.std.specs.List.{AllByRecursion}
 use Rattle.cursor_word.specs.Shape.{Grid, IsWithinLimits}
 use Rattle.cursor_word.specs.Cursor.{most_puts, offset_span, packed, place_at, place_span}
@@ -30,7 +30,7 @@ use Rattle.sole_core.specs.Table.{MayBegin, table}
 use Rattle.sole_core.specs.declared.phase.SolePhase.{SolePhase}
 use Rattle.sole_core.specs.PutSteps.{after, first_put}
 use Rattle.sole_core.specs.TakeSteps.{committed_or_not, empty, first_take, next_cursor}
-use Rattle.sole_core.specs.Counts.{taken_count, taken_total}
+use Rattle.put_side.specs.Counts.{taken_count, taken_total}
 use Rattle.sole_core.specs.Sound.{IsSoundAt, Knows, scene}
 use Rattle.sole_core.specs.Stage.{stage, stage_of}
 use Rattle.machine.specs.Invariant.{made_count, made_total}
@@ -38,24 +38,19 @@ use Rattle.put_side.specs.Cursors.{Front}
 use Rattle.put_side.specs.PutTable.{stage_in}
 use Rattle.put_side.proofs.Begins.{begins_away}
 use Rattle.put_side.proofs.Made.{made_same}
-use Rattle.sole_core.specs.Alone.{AnswersAlone, GoesOnAlone, IsAlone, IsStill}
-use Rattle.sole_core.specs.Rest.{AnsweredAsOne, AnswersAsOne}
-use Rattle.put_side.proofs.CallKinds.{IsOfCall}
+use Rattle.sole_core.specs.Alone.{GoesOnAlone, IsAlone, IsStill}
+use Rattle.sole_core.specs.Rest.{AnsweredAsOne}
+use Rattle.put_side.specs.AsOne.{AnswersAlone, AnswersAsOne}
+use Rattle.put_side.proofs.AsOne.{answers_kind, put_busy_never, take_busy_never}
 use Rattle.put_side.proofs.LoneCalls as lone
 use Rattle.sole_core.proofs.CallTable.{call_table}
-use Rattle.sole_core.proofs.AloneCalls.{begun_total, goes_alone, put_alone, take_alone}
+use Rattle.sole_core.proofs.AloneCalls.{goes_alone, put_alone, take_alone}
 use Rattle.sole_core.proofs.Frames.{quiet}
-use Rattle.put_side.proofs.Choices.{by_equal, pick_equal, pick_less}
+use Rattle.put_side.proofs.Sums.{sum_same}
+use Rattle.put_side.proofs.Choices.{pick_equal, pick_less}
 use Rattle.put_side.proofs.TakeWords.{seen_by}
 use Rattle.sole_core.proofs.Starts.{begins_manned}
 use Rattle.sole_core.proofs.Reached.{moment_sound}
-
-answers_kind : (g : Grid) (n t : ℕ) (begins : Start) (a : Answer) → IsOfCall table begins (Done a) → AnswersAlone g n t a → AnswersAsOne g n t begins (Some a)
-answers_kind g n t (start.Put entry) (answer.Put p) kind h = h
-answers_kind g n t (start.Put entry) (answer.Take q) kind h = cc
-answers_kind g n t start.Take (answer.Put p) kind h = cc
-answers_kind g n t start.Take (answer.Take q) kind h = h
-answers_kind g n t start.Go a kind h = absurd kind
 
 -- a seat at rest that ends a call with nothing made or taken keeps the invariant
 rests_again : (g : Grid) (front : Front) (next : ℕ) (ws : List ℕ) (vs : List View) (id : ℕ) (v v' : View) → IsSoundAt g front next ws vs → slice_get vs id ≡ Some v → v.phase ≡ None → v'.phase ≡ None → v'.made ≡ v.made → v'.taken ≡ v.taken → v'.entry ≡ v.entry
@@ -71,10 +66,10 @@ module _ (g : Grid) (n t seat : ℕ) (begins : Start) where
   Alone ws vs p = IsAlone g n t ws vs seat p
 
   abbrev Lone : MachineState → SolePhase → Type 0
-  Lone = lone.LoneState table call_table g seat begins Alone (AnswersAlone g n t) (AnswersAsOne g n t begins) (answers_kind g n t begins)
+  Lone = lone.LoneState table call_table g seat begins Alone (AnswersAlone g n t) (AnswersAsOne g n t begins) (answers_kind g n t begins table)
 
   abbrev GoesAlone : List ℕ → List View → After → Type 0
-  GoesAlone = lone.GoesAlone table call_table g seat begins Alone (AnswersAlone g n t) (AnswersAsOne g n t begins) (answers_kind g n t begins)
+  GoesAlone = lone.GoesAlone table call_table g seat begins Alone (AnswersAlone g n t) (AnswersAsOne g n t begins) (answers_kind g n t begins table)
 
   goes_so : (ws : List ℕ) (vs : List View) (b : After) → GoesOnAlone g n t ws vs seat b → GoesAlone ws vs b
   goes_so ws vs (Next p) h = h
@@ -103,8 +98,8 @@ module _ (g : Grid) (n t seat : ℕ) (begins : Start) where
           sound = rests_again g a.front a.next w.words w.views other u v' a.sound at rest rest' made taken entry;
           manned = begins_manned g a.front a.next w.words w.views other u at rest v' a.manned;
           others = λ j x d e. ⊎_elim (λ q. subst (λ (y : View). y.phase ≡ None) q.1 rest') (λ q. a.others j x d q.1) (get_set w.views other j v' x e);
-          made = begun_total made_count w.views other n u v' at (ap (λ (items : List Placed). length items) made) a.made;
-          taken = begun_total taken_count w.views other t u v' at (ap (λ (items : List Placed). length items) taken) a.taken;
+          made = sum_same made_count w.views other u v' at (ap (λ (items : List Placed). length items) made) ∙ a.made;
+          taken = sum_same taken_count w.views other u v' at (ap (λ (items : List Placed). length items) taken) ∙ a.taken;
           knows = a.knows;
         };
         kind = l.kind;
@@ -160,12 +155,12 @@ module _ (g : Grid) (events : List Event) (limits : IsWithinLimits g) (suits : A
         let room : N ≤ place_span g = moment_total table g events n few in
         let rule : IsLoneRule table g seat begins (AnswersAsOne g N T begins) (Lone g N T seat begins) w =
         record {
-          first = lone.first_step table call_table g seat begins (Alone g N T seat begins) (AnswersAlone g N T) (AnswersAsOne g N T begins) (answers_kind g N T begins) (goes g N T seat begins limits room) w v.0 v.1
+          first = lone.first_step table call_table g seat begins (Alone g N T seat begins) (AnswersAlone g N T) (AnswersAsOne g N T begins) (answers_kind g N T begins table) (goes g N T seat begins limits room) w v.0 v.1
               (λ entry is. put_alone g limits N T w.words w.views seat v.0 (still_at n rest) v.1 entry (subst (IsWide g) is own_event.wide))
               (λ is. take_alone g limits N T w.words w.views seat v.0 (still_at n rest) v.1 (subst (MayBegin g seat) is own_event.may_begin))
               (ap phase_in (sym v.1) ∙ call.rested) call.is_begun;
           stands = λ w p l. ap phase_in l.at ∙ l.is;
-          own = lone.own_step table call_table g seat begins (Alone g N T seat begins) (AnswersAlone g N T) (AnswersAsOne g N T begins) (answers_kind g N T begins) (goes g N T seat begins limits room);
+          own = lone.own_step table call_table g seat begins (Alone g N T seat begins) (AnswersAlone g N T) (AnswersAsOne g N T begins) (answers_kind g N T begins table) (goes g N T seat begins limits room);
           other = λ w p j s apart l. other_view g N T seat begins w p j s (slice_get w.views j) apart l refl;
         } in
         answers_alone table g events seat n m begins call (AnswersAsOne g N T begins) (Lone g N T seat begins) rule alone
@@ -211,19 +206,9 @@ module _ (g : Grid) (events : List Event) (limits : IsWithinLimits g) (suits : A
     overlapped never = overlaps table g events i seat a x
         (λ n begins call alone is. never _ _ begins (subst (AnswersAsOne g (made_total (moment table g events n).views) (taken_total (moment table g events n).views) begins) is (rested_answers seat n (suc i) begins call (all_rested n begins call alone) alone)))
 
-  put_busy_never : (reason : Why) (n t : ℕ) (begins : Start) → AnswersAsOne g n t begins (Some (answer.Put (put.Busy reason))) → ⊥
-  put_busy_never reason n t (start.Put entry) h = h
-  put_busy_never reason n t start.Take h = h
-  put_busy_never reason n t start.Go h = h
-
-  take_busy_never : (reason : Why) (n t : ℕ) (begins : Start) → AnswersAsOne g n t begins (Some (answer.Take (take.Busy reason))) → ⊥
-  take_busy_never reason n t (start.Put entry) h = h
-  take_busy_never reason n t start.Take h = by_equal t n (λ b. take.Busy reason ≡ (if b then take.Empty n else take.Ok t) → ⊥) (λ e q. cc) (λ e q. cc) h
-  take_busy_never reason n t start.Go h = h
-
   -- a Busy answer shows another seat in mid-call at one of the call's moments
   pub put_overlapped : (i seat : ℕ) (reason : Why) → EndsAt table g events i seat (answer.Put (put.Busy reason)) → IsOverlapped table g events seat i
-  put_overlapped i seat reason x = overlapped i seat _ x tt (put_busy_never reason)
+  put_overlapped i seat reason x = overlapped i seat _ x tt (λ n t begins. put_busy_never g n t begins reason)
 
   pub take_overlapped : (i seat : ℕ) (reason : Why) → EndsAt table g events i seat (answer.Take (take.Busy reason)) → IsOverlapped table g events seat i
-  take_overlapped i seat reason x = overlapped i seat _ x tt (take_busy_never reason)
+  take_overlapped i seat reason x = overlapped i seat _ x tt (λ n t begins. take_busy_never g n t begins reason)

@@ -1,5 +1,5 @@
 -- A step of a seat that is alone: how it goes on, or comes to rest.
-use Rattle.std.proofs.Common.{◌≡◌, ℕ, ◌+◌, ◌<◌, ◌≤◌, List, length, sym, ap, ◌∙◌, subst, ⊎_elim, arith}
+use Rattle.std.proofs.Common.{◌≡◌, ℕ, ◌+◌, ◌<◌, ◌≤◌, List, length, sym, ap, ◌∙◌, subst, arith}
 use Rattle.std.specs.Prelude.{Some, None, slice_get, slice_set, slice_index}
 use Rattle.std.proofs.lemmas.List.{set-get_or}
 use Rattle.cursor_word.specs.Shape.{Grid, IsWithinLimits}
@@ -7,19 +7,18 @@ use Rattle.cursor_word.specs.Cursor.{most_block, place_span}
 use Rattle.rail.specs.declared.entry.Placed.{Placed}
 use Rattle.machine.specs.Invariant.{made_count, made_total}
 use Rattle.machine.specs.Steps.{finds, view_after, words_after}
-use Rattle.machine.proofs.Lists.{get_set}
 use Rattle.put_side.specs.Cursors.{Front, put_cursors}
 use Rattle.put_side.specs.Manned as put_work
 use Rattle.put_side.specs.Alone.{OthersRest, PutAlone}
 use Rattle.put_side.specs.PutTable.{stage_in}
 use Rattle.put_side.proofs.AlonePuts.{IsPutHere}
-use Rattle.put_side.proofs.Lone.{others_still, total_grows}
+use Rattle.put_side.proofs.Lone.{all_still, others_still, total_grows}
 use Rattle.sole_core.specs.declared.phase.SolePhase.{SolePhase}
 use Rattle.sole_core.specs.Types.{After, View}
 use Rattle.sole_core.specs.PutSteps.{after}
 use Rattle.sole_core.specs.Table.{table}
 use Rattle.sole_core.specs.Stage.{stage, stage_of}
-use Rattle.sole_core.specs.Counts.{taken_count, taken_total}
+use Rattle.put_side.specs.Counts.{taken_count, taken_total}
 use Rattle.sole_core.specs.Sound.{IsSoundAt}
 use Rattle.sole_core.specs.Alone.{GoesOnAlone, IsAlone, IsStill, LoneKnows}
 use Rattle.put_side.proofs.TakeWords.{seen_by}
@@ -80,7 +79,7 @@ module _ {g : Grid} {n t : ℕ} {front : Front} {next : ℕ} {ws : List ℕ} {vs
     next = k.next';
     sound = k.sound;
     manned = k.manned;
-    rest = λ j w e. ⊎_elim (λ q. let z = ap (λ (x : View). x.phase) q.1 in sym z ∙ rest) (λ q. h.others j w q.0 q.1) (get_set vs id j v' w e);
+    rest = all_still vs id v' h.others rest;
     made = total_grows made_count vs id m n v v' h.at made h.made;
     taken = total_grows taken_count vs id d t v v' h.at taken h.taken;
   }

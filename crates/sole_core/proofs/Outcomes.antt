@@ -20,7 +20,7 @@ use Rattle.machine.specs.declared.op.After.TheVariants.{Next, Done}
 use Rattle.machine.specs.Steps.{finds}
 use Rattle.machine.proofs.Lists.{one_le_sum}
 use Rattle.put_side.specs.Cursors.{Front, allocated_word, committed_word, consumed_word, place, put_cursors}
-use Rattle.put_side.specs.Counts.{makes}
+use Rattle.put_side.specs.Counts.{makes, takes}
 use Rattle.put_side.specs.declared.put_phase.PutPhase.TheVariants.{OpenM}
 use Rattle.put_side.specs.Places.{IsFilled}
 use Rattle.put_side.specs.PutSteps.{older_full}
@@ -43,7 +43,6 @@ use Rattle.sole_core.specs.Causes.{Differ}
 use Rattle.sole_core.specs.PutSteps.{after}
 use Rattle.sole_core.specs.Table.{consumer, table}
 use Rattle.sole_core.specs.Stage.{stage, stage_of}
-use Rattle.sole_core.specs.Counts.{takes}
 use Rattle.sole_core.specs.Sound.{IsSound, IsSoundAt, cursor_in}
 use Rattle.put_side.proofs.Moments.{made_within}
 use Rattle.sole_core.proofs.Frames.{is_consumer}

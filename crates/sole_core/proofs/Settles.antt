@@ -1,6 +1,5 @@
 -- Where all seats are at rest, what was made is what was taken and then what is left in the words.
 use Rattle.std.proofs.Common.{◌≡◌, ℕ, ◌+◌, ◌<◌, ◌≤◌, List, sym, ap, ◌∙◌, ⊎_elim, arith}
-use Rattle.std.specs.Prelude.{Contains}
 use Rattle.cursor_word.specs.Shape.{Grid, IsWithinLimits}
 use Rattle.cursor_word.specs.Cursor.{cursor_of}
 use Rattle.cursor_word.specs.declared.cursor.Cursor.{Cursor}
@@ -16,7 +15,7 @@ use Rattle.put_side.specs.Gathered.{all_made, all_taken}
 use Rattle.put_side.specs.PutTable.{stage_in}
 use Rattle.put_side.specs.Settled.{IsSettled}
 use Rattle.put_side.proofs.Orders.{in_order}
-use Rattle.put_side.proofs.Gathers.{StandsIn, has_in, stands_in, times_all}
+use Rattle.put_side.proofs.Gathers.{StandsIn, stands_in, taken_stands, times_all}
 use Rattle.put_side.proofs.Rests.{NonePuts, claims_all, made_at}
 use Rattle.put_side.proofs.Settles as put_settles
 use Rattle.put_side.proofs.Stores.{made_block}
@@ -33,13 +32,6 @@ module _ (g : Grid) (limits : IsWithinLimits g) (front : Front) (next : ℕ) (ws
 
   takes_all : (p : ℕ) → times p (places (all_taken vs)) ≡ one_below p next
   takes_all p = times_all (λ (v : View). v.taken) p vs ∙ taken_once g front next ws vs s p
-
-  -- what is taken is made, so it stands at its place among what is made
-  taken_stands : (x : Placed) → Contains (all_taken vs) x → Contains (all_made vs) x
-  taken_stands x c =
-      let k = stands_in (λ (v : View). v.taken) vs x c in
-      let m = (s.each k.seat k.view k.at).items k.number x k.there in
-      has_in (λ (v : View). v.made) vs m.seat m.number m.view x m.at m.there
 
   -- a place that is not taken lies in a block that is not reused, so its words stand
   pub rest_current : (p : ℕ) → next ≤ p → front.last < (cursor_of g p).block + g.blocks
@@ -63,7 +55,7 @@ module _ (g : Grid) (limits : IsWithinLimits g) (front : Front) (next : ℕ) (ws
   settled_at =
       let p = s.puts.places in
       let made = in_order front.next (all_made vs) (λ q. sym (claims_all stage_of g front vs none_puts q) ∙ p.counts.once q) in
-      put_settles.settled g front.next next ws vs made (in_order next (all_taken vs) takes_all) (taken_within g limits front next ws vs s) taken_stands
+      put_settles.settled g front.next next ws vs made (in_order next (all_taken vs) takes_all) (taken_within g limits front next ws vs s) (taken_stands vs (λ j u at. (s.each j u at).items))
       (λ x c. made_stands x (stands_in (λ (v : View). v.made) vs x c))
 
 pub settled : (g : Grid) (ws : List ℕ) (vs : List View) → IsWithinLimits g → IsSound g ws vs → AllRest vs → IsSettled g ws vs

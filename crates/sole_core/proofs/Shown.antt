@@ -23,12 +23,12 @@ use Rattle.machine.proofs.Lists.{all_at, get_set_same, set_again}
 use Rattle.machine.proofs.Turns.{begun_made, begun_taken}
 use Rattle.machine.proofs.Schedules as schedules
 use Rattle.machine.proofs.Schedules.{IsRecalled, LastStep, Remembers, ends_done, last_step, last_view, remembered}
-use Rattle.put_side.specs.Counts.{makes, times}
+use Rattle.put_side.specs.Counts.{makes, takes, times}
 use Rattle.put_side.proofs.Recalled.{busy_shown}
 use Rattle.put_side.proofs.Sums.{sum_same}
 use Rattle.sole_core.specs.Types.{After, CallStep, MachineState, View}
 use Rattle.sole_core.specs.Table.{MayBegin, table}
-use Rattle.sole_core.specs.Counts.{claims, takes}
+use Rattle.sole_core.specs.Counts.{claims}
 use Rattle.sole_core.specs.declared.phase.SolePhase.{SolePhase}
 use Rattle.sole_core.specs.Causes.{BusyShown, Differ, EmptyShown, FullShown, PutPair, TakePair, shown}
 use Rattle.sole_core.specs.Moments.{EmptyAt, FullAt}

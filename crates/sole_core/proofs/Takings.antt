@@ -9,12 +9,11 @@ use Rattle.rail.specs.Outcome.{numbers_below}
 use Rattle.rail.specs.declared.entry.Placed.{Placed}
 use Rattle.std.proofs.lemmas.List.Sums.{sum_by-cons}
 use Rattle.put_side.specs.Cursors.{Front}
-use Rattle.put_side.specs.Counts.{makes, one_at, one_below, times}
+use Rattle.put_side.specs.Counts.{makes, one_at, one_below, taken_count, taken_total, takes, times}
 use Rattle.put_side.proofs.Draws.{below_more}
 use Rattle.put_side.proofs.Orders.{range_more}
 use Rattle.put_side.proofs.Sums.{none_from, sum_none, times_push}
 use Rattle.sole_core.specs.Types.{View}
-use Rattle.sole_core.specs.Counts.{taken_count, taken_total, takes}
 use Rattle.sole_core.specs.Table.{consumer}
 use Rattle.sole_core.specs.Sound.{IsSoundAt}
 use Rattle.sole_core.proofs.Starts.{taken_long}

@@ -1,23 +1,15 @@
 -- What the trail of one seat shows, where no schedule is at hand.
-use Rattle.std.proofs.Common.{◌≡◌, ◌≢◌, ℕ, List, refl, sym, ap, ◌∙◌, inl}
-use Rattle.cursor_word.specs.Cursor.{packed}
-use Rattle.cursor_word.specs.declared.cursor.Cursor.{Cursor}
+use Rattle.std.proofs.Common.{◌≢◌, ℕ, List, refl, inl}
 use Rattle.rail.specs.declared.answer.Why.{Why}
 use Rattle.rail.specs.declared.answer.Why.TheVariants as why
-use Rattle.rail.specs.Told.{Spells}
 use Rattle.call_laws.proofs.Trails.{ShowsTrail}
 use Rattle.put_side.specs.Causes.{first_found, second_found}
-use Rattle.put_side.proofs.Facts.{repacked}
 use Rattle.put_side.proofs.PutTrails as trails
-use Rattle.put_side.proofs.PutTrails.{blocks_apart, pair_found}
+use Rattle.put_side.proofs.PutTrails.{blocks_apart, pair_found, word_spells}
 use Rattle.sole_core.specs.Causes.{Differ, PutPair, TakePair, shown}
-use Rattle.sole_core.specs.declared.phase.SolePhase.{SolePhase}
 use Rattle.sole_core.specs.Table.{table}
 use Rattle.sole_core.specs.Types.{After}
 use Rattle.sole_core.proofs.Recalled.{Recalls, ShowsNext, step_shows}
-
-spells : (p : SolePhase) (word : ℕ) (c : Cursor) → shown p word ≡ c → Spells word c
-spells p word c e = inl (sym (repacked word) ∙ ap packed e)
 
 abbrev pub TrailShows : List ℕ → After → Type 0
 TrailShows = trails.TrailShows table Recalls
@@ -28,8 +20,8 @@ trail_shows = trails.trail_shows table Recalls ShowsNext (record {
   begins_take = λ g taken. refl;
   step = λ g entry steps p found r. step_shows g entry 0 steps p found r;
   next = λ g steps this p s. s;
-  put_busy = λ g steps this reason s. pair_found shown spells (PutPair reason) _ reason this s;
-  take_busy = λ g steps this reason s. pair_found shown spells (TakePair reason) _ reason this s;
+  put_busy = λ g steps this reason s. pair_found shown (λ p. word_spells) (PutPair reason) _ reason this s;
+  take_busy = λ g steps this reason s. pair_found shown (λ p. word_spells) (TakePair reason) _ reason this s;
 })
 
 pub apart : (reason : Why) → Differ reason → first_found reason ≢ second_found reason

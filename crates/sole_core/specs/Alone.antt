@@ -7,18 +7,14 @@ use Rattle.machine.specs.Invariant.{made_total}
 use Rattle.machine.specs.Steps.{AllRest}
 use Rattle.put_side.specs.Cursors.{Front, committed_word, put_cursors}
 use Rattle.put_side.specs.Alone.{OthersRest, PutAlone}
+use Rattle.put_side.specs.AsOne.{AnswersAlone, accepts, gives_out}
 use Rattle.put_side.specs.Manned as puts
 use Rattle.put_side.specs.Stages.{At, Fills}
-use Rattle.rail.specs.Sequential.{RetryPut, retry_take}
-use Rattle.rail.specs.declared.answer.Answer.{Answer}
-use Rattle.rail.specs.declared.answer.Answer.TheVariants as answer
-use Rattle.rail.specs.declared.answer.Put.TheVariants as put
-use Rattle.rail.specs.declared.answer.Take.TheVariants as take
 use Rattle.sole_core.specs.declared.phase.SolePhase.{SolePhase}
 use Rattle.sole_core.specs.declared.phase.SolePhase.TheVariants.{Put, SeeX, Take}
 use Rattle.sole_core.specs.declared.take_phase.SoleTake.TheVariants.{All}
 use Rattle.sole_core.specs.Types.{After, View}
-use Rattle.sole_core.specs.Counts.{taken_total}
+use Rattle.put_side.specs.Counts.{taken_total}
 use Rattle.sole_core.specs.Sound.{IsSoundAt}
 use Rattle.sole_core.specs.Stage.{stage_of}
 
@@ -52,20 +48,6 @@ pub record IsStill (shape : Grid) (n t : ℕ) (words : List ℕ) (views : List V
   pub rest : AllRest views
   pub made : made_total views ≡ n
   pub taken : taken_total views ≡ t
-
--- what one thread is answered
-abbrev pub AnswersAlone : Grid → ℕ → ℕ → Answer → Type 0
-AnswersAlone shape n t (answer.Put p) = RetryPut shape n t p
-AnswersAlone shape n t (answer.Take q) = q ≡ retry_take n t
-
--- how many entries an answer accepts, and how many it gives out
-abbrev pub accepts : Answer → ℕ
-accepts (answer.Put (put.Ok place)) = 1
-accepts a = 0
-
-abbrev pub gives_out : Answer → ℕ
-gives_out (answer.Take (take.Ok place)) = 1
-gives_out a = 0
 
 -- after a step of a seat alone: it goes on alone, or all seats are at rest and the answer is what
 -- one thread is answered

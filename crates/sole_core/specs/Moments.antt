@@ -4,9 +4,8 @@ use Rattle.std.specs.List.{sum_by}
 use Rattle.cursor_word.specs.Shape.{Grid}
 use Rattle.cursor_word.specs.declared.cursor.Cursor.{Cursor}
 use Rattle.sole_core.specs.Types.{MachineState}
-use Rattle.sole_core.specs.Counts.{takes}
 use Rattle.sole_core.specs.Stage.{stage_of}
-use Rattle.put_side.specs.Counts.{makes}
+use Rattle.put_side.specs.Counts.{makes, takes}
 use Rattle.put_side.specs.Full as full
 
 -- the queue is full up to a block, as x shows

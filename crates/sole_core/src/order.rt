@@ -6,7 +6,7 @@ ghost use Rattle.rail.specs.declared.answer.Put.TheVariants as put;
 ghost use Rattle.rail.specs.declared.answer.Take.TheVariants as take;
 ghost use Rattle.machine.specs.Steps.{Suits};
 ghost use Rattle.machine.specs.Moments.{EndsAt, IsInOrder, IsLaterCall, moment};
-ghost use Rattle.sole_core.specs.Counts.{takes};
+ghost use Rattle.put_side.specs.Counts.{takes};
 ghost use Rattle.sole_core.specs.Table.{table};
 
 use cursor_word::Shape;

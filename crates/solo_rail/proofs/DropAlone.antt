@@ -17,7 +17,7 @@ use Rattle.machine.specs.Steps.{IsWide, begun, finds, phase_after, resting, star
 use Rattle.drop_core.specs.declared.phase.DropPhase.{DropPhase}
 use Rattle.drop_core.specs.Types.{After, View}
 use Rattle.drop_core.specs.PutSteps.{after}
-use Rattle.drop_core.specs.Counts.{takes}
+use Rattle.put_side.specs.Counts.{takes}
 use Rattle.drop_core.specs.Sound.{IsSound}
 use Rattle.drop_core.specs.Steps.{table}
 use Rattle.drop_core.specs.Alone.{GoesOnAlone, IsAlone, IsStill}
