@@ -1,5 +1,5 @@
 -- Places are accepted and given out in order of time.
-use Rattle.std.proofs.Common.{◌≡◌, ℕ, ◌<◌, ◌≤◌, ◌≢◌, List, [], length, refl, arith}
+use Rattle.std.proofs.Common.{◌≡◌, ℕ, ◌<◌, ◌≤◌, ◌≢◌, List, length, refl, arith}
 use Rattle.std.specs.List.{AllByRecursion, sum_by}
 use Rattle.cursor_word.specs.Shape.{Grid, IsWithinLimits}
 use Rattle.cursor_word.specs.Cursor.{most_puts}
@@ -15,7 +15,6 @@ use Rattle.put_side.proofs.Sums.{one_to}
 use Rattle.put_side.proofs.InTime.{not_made_later, once_dense, puts_in_order, take_takes, takes_last}
 use Rattle.sole_core.specs.Stage.{stage}
 use Rattle.sole_core.specs.Table.{table}
-use Rattle.sole_core.specs.PutSteps.{after}
 use Rattle.sole_core.specs.Sound.{IsSound}
 use Rattle.sole_core.proofs.Shares.{puts}
 use Rattle.sole_core.proofs.Reached.{dense, moment_sound}
