@@ -20,8 +20,8 @@ pub record Queue : Type 0 where
 abbrev pub no_grid : Grid
 no_grid = record { blocks = 0; size = 0; width = 0; seats = 0 }
 
--- a seat: its queue, its number, what the machine knows of it, what it remembers beside the machine,
--- and the steps that it took
+-- a seat: its queue, its number, what the machine knows of it, what it remembers beside the
+-- machine, and the steps that it took
 pub record SeatedWith (P M : Type 0) : Type 0 where
   pub of : Queue
   pub number : ℕ

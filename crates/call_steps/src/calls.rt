@@ -68,6 +68,14 @@ pub fn run_put<P: CallPhase, U: MachineRule<P>, E: Call>(
         state,
         |phase: &P| phase.usual_step() == 3,
     );
+    let state = put_while::<P, U, E, _>(
+        words,
+        shape,
+        seat,
+        entry,
+        state,
+        |phase: &P| phase.usual_step() == 4,
+    );
     let mut state = state;
     loop {
         match state {

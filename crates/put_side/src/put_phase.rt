@@ -51,6 +51,7 @@ impl PutPhase {
             PutPhase::SeeA { .. } => 1,
             PutPhase::AddA { .. } => 2,
             PutPhase::Write { .. } => 3,
+            PutPhase::Commit { .. } => 4,
             _ => 6,
         }
     }
