@@ -17,8 +17,8 @@ ghost use Rattle.put_side.specs.Settled.{IsSettled};
 use cursor_word::Shape;
 use machine::Event;
 
-/// At each moment of each schedule the places that were made or are held are dense, each seat's made
-/// places rise, and no word overflows.
+/// At each moment of each schedule the places that were made or are held are dense, each seat's
+/// made places rise, and no word overflows.
 pub fn law_accepted(shape: &Shape, events: &[Event])
     requires suits { AllByRecursion (Suits table shape.now) events.now }
     requires few { length events.now < most_puts shape.now }
@@ -33,9 +33,9 @@ pub fn law_accepted(shape: &Shape, events: &[Event])
     let _blocks = shape.blocks();
 }
 
-/// At each moment of each schedule each taken entry is a made one, no place is taken twice, and each
-/// seat's taken places rise. Where all seats are at rest, what was taken are the first of the accepted
-/// entries, and the words have the rest.
+/// At each moment of each schedule each taken entry is a made one, no place is taken twice, and
+/// each seat's taken places rise. Where all seats are at rest, what was taken are the first of the
+/// accepted entries, and the words have the rest.
 pub fn law_taken(shape: &Shape, events: &[Event])
     requires suits { AllByRecursion (Suits table shape.now) events.now }
     requires few { length events.now < most_puts shape.now }

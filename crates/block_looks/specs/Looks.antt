@@ -33,8 +33,8 @@ steps_before shape (All block found) = 1
 steps_before shape (Word at next) = next
 steps_before shape (Check at) = shape.width
 
--- what a step leaves, by what follows it: a whole look at a block gives its block and count, a whole
--- look at an entry an item more
+-- what a step leaves, by what follows it: a whole look at a block gives its block and count, a
+-- whole look at an entry an item more
 abbrev pub phase_after : LookAfter → Option LookPhase
 phase_after (after.Next phase) = Some phase
 phase_after answer = None

@@ -35,9 +35,9 @@ pub record IsNewest (shape : Grid) (made : List Placed) (head : ℕ) (newest : C
   pub to : newest.block ≤ most_block
   pub before : AreBefore shape made (newest.block + shape.blocks)
 
--- What a look at a block shows: where the block isn't opened, none of these items lies in it or after
--- it; where it is whole, none of those in it lies at the count or beyond, and it counts no more than
--- a block holds.
+-- What a look at a block shows: where the block isn't opened, none of these items lies in it or
+-- after it; where it is whole, none of those in it lies at the count or beyond, and it counts no
+-- more than a block holds.
 abbrev pub BlockShown : Grid → List Placed → ℕ → Look → Type 0
 BlockShown shape made block (look.Unopened committed) = AreBefore shape made block
 BlockShown shape made block (look.Whole count committed allocated) =
@@ -72,8 +72,8 @@ look_loads shape (after.Next phase) (value ∷ values) =
     ∷ look_loads shape (look_after shape phase value) values
 look_loads shape answer (value ∷ values) = []
 
--- A look that began at this phase did exactly these loads, and what they found leads to exactly this
--- answer.
+-- A look that began at this phase did exactly these loads, and what they found leads to exactly
+-- this answer.
 pub record TookLook (shape : Grid) (first : LookPhase) (found : List ℕ) (answer : LookAfter)
     (old_log new_log : List Step) : Type 0 where
   pub leads : LookLeads shape (after.Next first) found answer

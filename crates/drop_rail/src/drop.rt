@@ -31,8 +31,8 @@ use std::snapshot::Snapshot;
 /// The token with which one caller puts, takes and looks.
 pub type DropSeat = SharedSeat<DropPhase, Looks>;
 
-/// A queue that drops its oldest block of entries when it is full. Each of its seats may be used from
-/// a thread of its own.
+/// A queue that drops its oldest block of entries when it is full. Each of its seats may be used
+/// from a thread of its own.
 #[derive(Drop)]
 pub struct DropRail {
     pub(crate) queue: SharedQueue<DropPhase, Looks>,
@@ -221,8 +221,8 @@ impl Rail for DropRail {
         self.queue.put(seat, entry)
     }
 
-    /// Takes an entry, by the machine's steps and no other. After an answer that says that the place
-    /// was overrun, `out` holds any numbers.
+    /// Takes an entry, by the machine's steps and no other. After an answer that says that the
+    /// place was overrun, `out` holds any numbers.
     fn take(&self, seat: &mut DropSeat, out: &mut [u64]) -> Take
         requires seat { IsSeatOf self.now seat.old }
         requires width { length out.old ≡ self.now.shape.width }

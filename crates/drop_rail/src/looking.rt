@@ -81,8 +81,8 @@ impl DropRail {
         self.look_load::<Brand>(shape, seat, step)
     }
 
-    /// The cursor that allocates in the newest block, as a put finds it: the producer head, and then
-    /// the allocated cursor of its block.
+    /// The cursor that allocates in the newest block, as a put finds it: the producer head, and
+    /// then the allocated cursor of its block.
     pub fn look_head(&self, seat: &mut DropSeat) -> Cursor
         requires seat { IsSeatOf self.now seat.old }
         ensures look { HasLooked self.now.shape seat.old seat.new phase.Head (after.Head result) }
@@ -97,8 +97,8 @@ impl DropRail {
         Cursor::unpack(found)
     }
 
-    /// Whether a block's entries stand, and how many, by its committed cursor and then its allocated
-    /// one.
+    /// Whether a block's entries stand, and how many, by its committed cursor and then its
+    /// allocated one.
     pub fn look_block(&self, seat: &mut DropSeat, block: u64) -> Look
         requires seat { IsSeatOf self.now seat.old }
         requires block { self.now.shape.blocks ≤ block }
@@ -123,8 +123,8 @@ impl DropRail {
         }
     }
 
-    /// Reads the words of an entry, and then whether its block still stands: only then are they those
-    /// of the entry. Otherwise `out` holds any numbers.
+    /// Reads the words of an entry, and then whether its block still stands: only then are they
+    /// those of the entry. Otherwise `out` holds any numbers.
     pub fn look_entry(&self, seat: &mut DropSeat, at: Cursor, out: &mut [u64]) -> Seen
         requires seat { IsSeatOf self.now seat.old }
         requires looking { IsLookedAt seat.old.memory.looking at }

@@ -14,8 +14,8 @@ use Rattle.flight_view.specs.declared.schedule.ViewEvent.{ViewEvent}
 use Rattle.flight_view.specs.declared.schedule.ViewEvent.TheVariants as event
 use Rattle.flight_view.specs.Walks.{HasEnded, IsWalk, Walk, walk_gaps, walk_items, walk_loads}
 
--- A seat's views: the loads of the one under way; the queue just before the second load of the latest
--- one, which is its first of an allocated cursor; and the last one that ended.
+-- A seat's views: the loads of the one under way; the queue just before the second load of the
+-- latest one, which is its first of an allocated cursor; and the last one that ended.
 pub record Viewer : Type 0 where
   pub loads : List Step
   pub then : Option MachineState

@@ -10,10 +10,10 @@ use crate::schedule::ViewEvent;
 use block_looks::look_law;
 use cursor_word::Shape;
 
-/// In each schedule a view is a list of accepted items in rising order of place, each whole. Each of
-/// its gaps has its cause, and a cursor of a greater block shows that the gap's block was reused.
-/// What was accepted before the view's first load of an allocated cursor, in the blocks that were the
-/// newest then, is in the view, or its block is among the gaps.
+/// In each schedule a view is a list of accepted items in rising order of place, each whole. Each
+/// of its gaps has its cause, and a cursor of a greater block shows that the gap's block was
+/// reused. What was accepted before the view's first load of an allocated cursor, in the blocks
+/// that were the newest then, is in the view, or its block is among the gaps.
 pub fn law_view(shape: &Shape, events: &[ViewEvent])
     requires suits { AllByRecursion (SuitsView shape.now) events.now }
     requires few { length events.now < most_puts shape.now }
