@@ -1,7 +1,7 @@
 -- What several workers gave back.
 use Rattle.std.specs.Prelude.{◌≡◌, ℕ, ◌<◌, true, List, [], length, map, filter, flat_map, slice_index_or, Option}
 use Rattle.std.specs.List.{All, Any}
-use Rattle.claim_table.specs.Claimed.{Claimant, Drawing}
+use Rattle.claim_table.specs.Claimed.{Claimant, Drawing, looked}
 use Rattle.flow_io.specs.Clock.{Ticks}
 use Rattle.rail.specs.declared.entry.Placed.{Placed}
 use Rattle.rail.specs.Items.{IsRising, places}
@@ -45,3 +45,7 @@ abbrev pub EachOwn : {S : Type 0} → (S → List Placed) → List Piece → Lis
 EachOwn {S} made plan texts clock workers drawn seats = (w : ℕ) (seat : S) → w < workers
     → Worked plan texts (clock w) w (slice_index_or drawn w []) []
     (made (slice_index_or seats w seat))
+
+-- the last step of a seat of a claim found that so many workers had ended
+abbrev pub FoundEnded : ℕ → Drawing → Type 0
+FoundEnded workers seat = (before : Drawing) × (seat ≡ looked before workers)

@@ -1,12 +1,12 @@
 //! Workers that run beside one another, each with a seat of its own, and a collector beside them.
-ghost use Rattle.std.specs.Prelude.{◌≡◌, ℕ, ◌+◌, ◌≤◌, List, [], Option, length, map, IfOk, slice_index_or};
+ghost use Rattle.std.specs.Prelude.{◌≡◌, ℕ, ◌+◌, ◌≤◌, false, List, [], Option, length, map, IfOk, slice_index_or};
 ghost use Rattle.std.specs.List.{All};
-ghost use Rattle.claim_table.specs.Claimed.{Claimant, IsFresh};
+ghost use Rattle.claim_table.specs.Claimed.{Claimant, Drawing, IsFresh};
 ghost use Rattle.flow_io.specs.Clock.{Ticks};
 ghost use Rattle.word_text.specs.declared.plan.Piece.{Piece};
 ghost use Rattle.word_workers.specs.Child.{AreChildren, seat_of};
 ghost use Rattle.word_workers.specs.Finished.{Finished, IsRun};
-ghost use Rattle.word_workers.specs.Parts.{EachOwn};
+ghost use Rattle.word_workers.specs.Parts.{EachOwn, FoundEnded};
 ghost use Rattle.word_workers.specs.Shared.{IsShared};
 ghost use Rattle.word_workers.specs.Spans.{AllLieIn};
 
@@ -112,6 +112,9 @@ pub fn run_beside<'s, E, X: Threads + Wait + Sync, R: Rail, C: Clock, G: Gate>(
     ensures last { (workers : ℕ) → length seats.queue.items ≡ workers + 1
         → IfOk result (λ run. (seat : R.Seat)
         → R.made (slice_index_or run.seats.items workers seat) ≡ []) }
+    ensures waited { R.DROPS ≡ false → (workers : ℕ) → length seats.queue.items ≡ workers + 1
+        → IfOk result (λ run. (seat : Drawing)
+        → FoundEnded workers (slice_index_or run.parts.claim_seats.items workers seat)) }
 {
     let mut seats = seats;
     let Some(last) = seats.queue.pop() else {

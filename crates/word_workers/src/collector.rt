@@ -2,6 +2,7 @@
 ghost use Rattle.std.specs.Prelude.{◌≡◌, [], ◌∷◌, ◌++◌, List, false, true, IfOk};
 ghost use Rattle.rail.specs.declared.entry.Placed.{Placed};
 ghost use Rattle.span_recorder.specs.Gain.{GainAlike};
+ghost use Rattle.word_workers.specs.Parts.{FoundEnded};
 ghost use Rattle.word_workers.specs.Shared.{IsShared};
 
 use crate::gate::Gate;
@@ -49,6 +50,7 @@ pub fn collect<R: Rail, G: Gate>(
     ensures number { IfOk result (λ done. R.number_of done.seat ≡ R.number_of seat) }
     ensures claim { IfOk result (λ done. done.claim_seat.of ≡ shared.now.claim.now) }
     ensures drawn { IfOk result (λ done. done.claim_seat.drawn ≡ claim_seat.drawn) }
+    ensures waited { R.DROPS ≡ false → IfOk result (λ done. FoundEnded workers done.claim_seat) }
 {
     let mut done = Collected {
         batch: Batch::new(alloc),
@@ -63,7 +65,7 @@ pub fn collect<R: Rail, G: Gate>(
     let pause = Duration::from_micros(PAUSE_MICROSECONDS);
     for _ in rt.forever() {
         if shared.claim.ended(&mut done.claim_seat) == workers {
-            break;
+            return Ok(done);
         }
         match collect_one(alloc, shared.rail, &mut done.seat, &mut done.batch)? {
             Take::Ok(_) => backoff.reset(),
@@ -71,5 +73,5 @@ pub fn collect<R: Rail, G: Gate>(
             _ => backoff.snooze(),
         }
     }
-    Ok(done)
+    unreachable!()
 }

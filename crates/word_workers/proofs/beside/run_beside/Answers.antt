@@ -1,6 +1,8 @@
-use Rattle.std.proofs.Common.{rules, ◌≡◌, ◌∷◌, ◌++◌, [], refl, ap, subst, ◌∙◌, arith}
+use Rattle.std.proofs.Common.{rules, ◌≡◌, ◌∷◌, ◌++◌, [], length, refl, sym, ap, subst, ◌∙◌, arith}
 use Rattle.std.specs.List.{All}
+use Rattle.std.proofs.lemmas.List.{length-append, length-map}
 use Rattle.word_workers.specs.Child.{seat_of}
+use Rattle.word_workers.specs.Parts.{FoundEnded}
 use Rattle.word_workers.proofs.Finishing.{all_early, all_last, at_last}
 use Rattle.word_workers.proofs.Ways.{each_with, finished_all, with_collector}
 use Rattle.word_workers.proofs.beside.run_beside.Goals as goal
@@ -48,3 +50,12 @@ returns-clause-last g c = λ workers e seat.
     let unused : (g.R.Rail.made c.in-Some.last ≡ []) × (g.R.Rail.taken c.in-Some.last ≡ []) = all_last (λ s. (g.R.Rail.made s ≡ []) × (g.R.Rail.taken s ≡ [])) _ _ (subst (All (λ s. (g.R.Rail.made s ≡ []) × (g.R.Rail.taken s ≡ []))) c.in-Some.ensures.items c.requires.unused) in
     let pushed : c.push-3.new.self.items ≡ c.in_ok-run.run'.seats.items ++ c.in_ok-batch.field-0.seat ∷ [] = search rules in
     ap g.R.Rail.made (at_last _ _ _ seat workers pushed f.count) ∙ c.in_ok-batch.ensures.made ∙ unused.0
+
+pub returns-clause-waited : goal.returns-clause-waited
+returns-clause-waited g c = λ keeps workers e seat.
+    let begun = c.in_ok-children.ensures in
+    let f = finished_all g.R.Rail.made g.R.Rail.taken g.R.Rail.number_of g.R.Rail.PutsInto g.R.Rail.TakesFrom g.R.Rail.DROPS c.args.shared.now.plan.now c.args.shared.now.texts.now (g.C.Clock.ticks c.args.clock.now) c.args.shared.now.claim.now seat_of c.in_ok-children.children.items _ _ _ workers _ _ _ _ _ begun.seats c.in-Some.ensures.items e (c.in_ok-run.ensures _ _ _ _ c.requires.shared.inside begun.children) in
+    let claims : c.push-2.new.self.items ≡ c.in_ok-run.run'.parts.claim_seats.items ++ c.in_ok-batch.field-0.claim_seat ∷ [] = search rules in
+    let count = sym (length-map c.in_ok-run.run'.parts.claim_seats.items (λ s. s.drawn)) ∙ ap length f.parts.claimed ∙ f.run.number in
+    let early : c.len-workers.result ≡ workers = (let split = ap length c.in-Some.ensures.items ∙ length-append c.pop.new.self.items (c.in-Some.last ∷ []) in omega arith) in
+    subst (FoundEnded workers) (sym (at_last _ _ _ seat workers claims count)) (subst (λ n. FoundEnded n c.in_ok-batch.field-0.claim_seat) early (c.in_ok-batch.ensures.waited keeps))
