@@ -1,7 +1,9 @@
 //! The steps of the refusing and of the overwriting queue in plain Rust, one after another and
 //! without a proof, and what they cost for entries of six words: a put and a take by one thread,
 //! overwriting puts by one thread and by four, and the steps of a put and a take alone, which no
-//! queue of these steps can undercut. bench/queue.sh builds it where rustc is there.
+//! queue of these steps can undercut. A put and a take and an overwriting put are timed with the
+//! sizes known to the compiler and with sizes chosen at run time, as those of the queues are.
+//! bench/queue.sh builds it where rustc is there.
 use std::hint::black_box;
 use std::sync::atomic::{AtomicU64, Ordering::SeqCst};
 use std::thread::scope;
@@ -17,7 +19,49 @@ const ENTRIES: u64 = 20_000;
 const ROUNDS: usize = 200;
 const PASSES: usize = 40;
 
-type Entry = [u64; WIDTH];
+/// How many entries a block has, and how many words an entry has.
+trait Sizes: Sync {
+    fn block(&self) -> u64;
+    fn entry(&self) -> usize;
+}
+
+/// Sizes that the compiler knows.
+struct Known;
+
+impl Sizes for Known {
+    fn block(&self) -> u64 {
+        SIZE
+    }
+
+    fn entry(&self) -> usize {
+        WIDTH
+    }
+}
+
+/// Sizes that are chosen at run time.
+struct Chosen {
+    block: u64,
+    entry: usize,
+}
+
+impl Chosen {
+    fn usual() -> Chosen {
+        Chosen {
+            block: black_box(SIZE),
+            entry: black_box(WIDTH),
+        }
+    }
+}
+
+impl Sizes for Chosen {
+    fn block(&self) -> u64 {
+        self.block
+    }
+
+    fn entry(&self) -> usize {
+        self.entry
+    }
+}
 
 /// The cursors of a block lie side by side, in this order.
 #[derive(Clone, Copy)]
@@ -34,27 +78,29 @@ const CONSUMER: usize = 1;
 
 /// The words of a queue: two heads, the cursors of the blocks, and the entries. The first block has
 /// the number `blocks`.
-struct Queue {
+struct Queue<S> {
     words: Vec<AtomicU64>,
     blocks: u64,
+    sizes: S,
 }
 
 fn cursor(block: u64, offset: u64) -> u64 {
     block * OFFSETS + offset
 }
 
-impl Queue {
-    fn new(blocks: u64) -> Queue {
-        let count = 2 + blocks * (4 + SIZE * WIDTH as u64);
+impl<S: Sizes> Queue<S> {
+    fn new(blocks: u64, sizes: S) -> Queue<S> {
+        let count = 2 + blocks * (4 + sizes.block() * sizes.entry() as u64);
         let queue = Queue {
             words: (0..count).map(|_| AtomicU64::new(0)).collect(),
             blocks,
+            sizes,
         };
         for block in 0..blocks {
             let (number, offset) = if block == 0 {
                 (blocks, 0)
             } else {
-                (block, SIZE)
+                (block, queue.sizes.block())
             };
             for part in [Allocated, Committed, Reserved, Consumed] {
                 queue
@@ -73,14 +119,15 @@ impl Queue {
 
     fn entry(&self, at: u64) -> &[AtomicU64] {
         let (block, offset) = (at / OFFSETS % self.blocks, at % OFFSETS);
-        let from = (2 + 4 * self.blocks) as usize + (block * SIZE + offset) as usize * WIDTH;
-        &self.words[from..from + WIDTH]
+        let index = (block * self.sizes.block() + offset) as usize;
+        let from = (2 + 4 * self.blocks) as usize + index * self.sizes.entry();
+        &self.words[from..from + self.sizes.entry()]
     }
 
     /// Opens the next block to puts, where the older one there has come so far by this cursor.
     fn opens(&self, full: u64, by: Part) -> bool {
         let next = full + 1;
-        if self.part(by, next).load(SeqCst) < cursor(next - self.blocks, SIZE) {
+        if self.part(by, next).load(SeqCst) < cursor(next - self.blocks, self.sizes.block()) {
             return false;
         }
         self.part(Committed, next)
@@ -91,15 +138,15 @@ impl Queue {
         true
     }
 
-    fn put(&self, entry: &Entry, by: Part) -> bool {
+    fn put(&self, entry: &[u64], by: Part) -> bool {
         for turn in 1..=2 {
             let head = self.words[PRODUCER].load(SeqCst);
             let allocated = self.part(Allocated, head);
             let mut found = allocated.load(SeqCst);
-            if found % OFFSETS < SIZE {
+            if found % OFFSETS < self.sizes.block() {
                 found = allocated.fetch_add(1, SeqCst);
             }
-            if found % OFFSETS < SIZE {
+            if found % OFFSETS < self.sizes.block() {
                 for (word, value) in self.entry(found).iter().zip(entry) {
                     word.store(*value, SeqCst);
                 }
@@ -113,11 +160,11 @@ impl Queue {
         false
     }
 
-    fn take(&self, out: &mut Entry) -> bool {
+    fn take(&self, out: &mut [u64]) -> bool {
         for turn in 1..=2 {
             let head = self.words[CONSUMER].load(SeqCst);
             let at = self.part(Reserved, head).load(SeqCst);
-            if at % OFFSETS < SIZE {
+            if at % OFFSETS < self.sizes.block() {
                 return self.takes_at(at, out);
             }
             let next = at / OFFSETS + 1;
@@ -131,13 +178,15 @@ impl Queue {
         false
     }
 
-    fn takes_at(&self, at: u64, out: &mut Entry) -> bool {
+    fn takes_at(&self, at: u64, out: &mut [u64]) -> bool {
         let block = at / OFFSETS;
         let committed = self.part(Committed, block).load(SeqCst);
         if committed == at || committed / OFFSETS != block {
             return false;
         }
-        if committed % OFFSETS < SIZE && self.part(Allocated, block).load(SeqCst) != committed {
+        if committed % OFFSETS < self.sizes.block()
+            && self.part(Allocated, block).load(SeqCst) != committed
+        {
             return false;
         }
         if self.part(Reserved, block).fetch_max(at + 1, SeqCst) != at {
@@ -151,8 +200,8 @@ impl Queue {
     }
 }
 
-fn pairs(blocks: u64) -> f64 {
-    let queue = Queue::new(blocks);
+fn pairs(blocks: u64, sizes: impl Sizes) -> f64 {
+    let queue = Queue::new(blocks, sizes);
     let start = Instant::now();
     for value in 0..ENTRIES {
         let mut out = [0; WIDTH];
@@ -162,8 +211,8 @@ fn pairs(blocks: u64) -> f64 {
     start.elapsed().as_nanos() as f64 / ENTRIES as f64
 }
 
-fn overwriting(blocks: u64) -> f64 {
-    let queue = Queue::new(blocks);
+fn overwriting(blocks: u64, sizes: impl Sizes) -> f64 {
+    let queue = Queue::new(blocks, sizes);
     let start = Instant::now();
     for value in 0..ENTRIES {
         assert!(queue.put(&[value; WIDTH], Committed));
@@ -171,8 +220,8 @@ fn overwriting(blocks: u64) -> f64 {
     start.elapsed().as_nanos() as f64 / ENTRIES as f64
 }
 
-fn overwriting_by_four(blocks: u64) -> f64 {
-    let queue = Queue::new(blocks);
+fn overwriting_by_four(blocks: u64, sizes: impl Sizes) -> f64 {
+    let queue = Queue::new(blocks, sizes);
     let start = Instant::now();
     scope(|threads| {
         for _ in 0..PRODUCERS {
@@ -214,7 +263,7 @@ fn steps() -> f64 {
 
 fn show(name: &str, rounds: usize, round: impl Fn() -> f64) {
     let least = (0..rounds).map(|_| round()).fold(f64::INFINITY, f64::min);
-    println!("{name}, plain Rust: {least:.0} ns");
+    println!("{name}: {least:.0} ns");
 }
 
 fn main() {
@@ -222,10 +271,33 @@ fn main() {
         .nth(1)
         .and_then(|word| word.parse().ok())
         .unwrap_or(8);
-    show("a put and a take", ROUNDS, || pairs(blocks));
-    show("the steps of a put and a take alone", ROUNDS, steps);
-    show("overwriting put", ROUNDS, || overwriting(blocks));
-    show("four overwriting producers", PASSES, || {
-        overwriting_by_four(blocks)
+    show("a put and a take, plain Rust", ROUNDS, || {
+        pairs(blocks, Known)
     });
+    show(
+        "a put and a take, plain Rust of chosen sizes",
+        ROUNDS,
+        || pairs(blocks, Chosen::usual()),
+    );
+    show(
+        "the steps of a put and a take alone, plain Rust",
+        ROUNDS,
+        steps,
+    );
+    show("overwriting put, plain Rust", ROUNDS, || {
+        overwriting(blocks, Known)
+    });
+    show(
+        "overwriting put, plain Rust of chosen sizes",
+        ROUNDS,
+        || overwriting(blocks, Chosen::usual()),
+    );
+    show("four overwriting producers, plain Rust", PASSES, || {
+        overwriting_by_four(blocks, Known)
+    });
+    show(
+        "four overwriting producers, plain Rust of chosen sizes",
+        PASSES,
+        || overwriting_by_four(blocks, Chosen::usual()),
+    );
 }
